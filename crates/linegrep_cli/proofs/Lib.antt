@@ -1,8 +1,10 @@
 pub mod CapitalLemmas
+pub mod CollectorLemmas
 pub mod ConfigLemmas
 pub mod DigitLemmas
 pub mod EngineTextLemmas
 pub mod FolderLemmas
+pub mod LateTextLemmas
 pub mod OperandLemmas
 pub mod OutputTextLemmas
 pub mod PatternLemmas
@@ -14,4 +16,5 @@ pub mod SearchTextLemmas
 pub mod VisitSoundLemmas
 pub mod ToldLemmas
 pub mod VisitTextLemmas
+pub mod WaitingLemmas
 pub mod WordLemmas

@@ -11,6 +11,8 @@ use Rattle.linegrep_cli.specs.OperandRuns.{AreAllVisited, AreVisited, IsFolderVi
 use Rattle.linegrep_cli.specs.OperandRuns.{IsOperandVisited, IsWalkedTo, ends_with_match, is_escaped}
 use Rattle.linegrep_cli.specs.OperandRuns.{is_input, is_over, next_operand, no_visit, of_file_at, of_folder}
 use Rattle.linegrep_cli.specs.OperandRuns.{of_listing, of_missing, of_unfound, visited_then}
+use Rattle.linegrep_cli.specs.OperandRuns.{AreWaitingVisited, IsWaitingVisited, next_waiting}
+use Rattle.linegrep_cli.specs.declared.late.Waiting.{Waiting}
 use Rattle.linegrep_cli.specs.declared.scope.Scope.{Scope}
 use Rattle.linegrep_cli.specs.declared.visit.Visit.{Visit}
 use Rattle.linegrep_files.specs.Choices.{AreAlike}
@@ -162,3 +164,20 @@ module _ {E F : Type 0} (folders : FolderFacts) (finds : List ℕ → Result Boo
       (next_operand (take i paths) total next (get_or paths i unknown) visited goes_on
       (operand-by folders finds opens identifies step has_failed scope first choices alike
       (get_or paths i unknown) mid next new here)))
+
+module _ {E F : Type 0} (opens : List ℕ → Result F Error → Type 0) (identifies : F → Option FileId → Type 0)
+    (step : E → EngineCall F → E → Type 0) (has_failed : E → Bool) (scope : Scope) where
+  -- the next that waits is visited
+  pub next-waits : (sorted : List Waiting) (i : ℕ) (unknown one : Waiting) (old mid new : E)
+      (total next after : Visit) → i < length sorted → get_or sorted i unknown ≡ one
+      → AreWaitingVisited opens identifies step has_failed scope old (take i sorted) total mid
+      → is_over scope total ≡ false
+      → IsWaitingVisited opens identifies step has_failed scope one mid next new
+      → after ≡ visited_then total next
+      → AreWaitingVisited opens identifies step has_failed scope old (take (i + 1) sorted) after new
+  next-waits sorted i unknown one old mid new total next after within is_one visited goes_on here is =
+      subst (λ done. AreWaitingVisited opens identifies step has_failed scope old done after new)
+      (sym (take_more sorted i unknown within ∙ ap (λ w. take i sorted ++ w ∷ []) is_one))
+      (subst (λ (sum : Visit). AreWaitingVisited opens identifies step has_failed scope old
+      (take i sorted ++ one ∷ []) sum new) (sym is)
+      (next_waiting (take i sorted) total next one visited goes_on here))

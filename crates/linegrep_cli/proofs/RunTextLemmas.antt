@@ -27,8 +27,9 @@ use Rattle.linegrep_cli.proofs.EngineTextLemmas.{finishes-kept, finishes-sound, 
 use Rattle.linegrep_cli.proofs.OutputTextLemmas.{all-flushed, flush-failed}
 use Rattle.linegrep_cli.proofs.PrinterTextLemmas.{IsPrinterAfter, IsRunAfter, IsWriterAfter, pending_of}
 use Rattle.linegrep_cli.proofs.PrinterTotalLemmas.{after-unfailed}
-use Rattle.linegrep_cli.proofs.VisitSoundLemmas.{CallsKeep, Ends, all-ended, all-said}
-use Rattle.linegrep_cli.proofs.VisitTextLemmas.{IsGood, StepsKeep, all-visited, said-all}
+use Rattle.linegrep_cli.proofs.LateTextLemmas.{ordered-visited}
+use Rattle.linegrep_cli.proofs.VisitSoundLemmas.{CallsKeep, Ends, all-said, ordered-ended}
+use Rattle.linegrep_cli.proofs.VisitTextLemmas.{IsGood, StepsKeep, said-all}
 use Rattle.linegrep_cli.specs.EngineCalls.{EngineCall, finishes}
 use Rattle.linegrep_cli.specs.EngineSteps.{has_failed}
 use Rattle.linegrep_cli.specs.OperandRuns.{AreOperandsSearched, IsFailing, IsRunEnd, of_closed, of_end, of_failure}
@@ -175,6 +176,9 @@ module _ {F R W X : Type 0} (output : AllocError → Option (List ℕ)) (content
     searches : run.scope.lists_files ≡ false
     searches = ap (λ (s : Scope). s.lists_files) run.is_scope.2 ∙ writes.files
 
+    reads_input : run.scope.lists_input ≡ false
+    reads_input = ap (λ (s : Scope). s.lists_input) run.is_scope.2 ∙ writes.files
+
     begun : IsPrinterAfter run.first.printer run.first.printer no_findings × (pending_of run.first.printer ≡ [])
     begun = begun-printer options _ run.begins.separators run-for.matcher run-for.template _ run.first.printer
         run.begins.printer
@@ -268,8 +272,8 @@ module _ {F R W X : Type 0} (output : AllocError → Option (List ℕ)) (content
     ran start at sound searched = by status searched.ended refl
       where
         mid-ended : Ends Step (λ engine. has_failed engine.printer) Sound Cut searched.total.failure searched.mid
-        mid-ended = all-ended folders finds opens identifies Step
-            (λ engine. has_failed engine.printer) run.scope searches
+        mid-ended = ordered-ended folders finds opens identifies Step
+            (λ engine. has_failed engine.printer) run.scope searches reads_input
             Sound Cut keep run.run.left (paths_of options) start searched.total searched.mid searched.visited sound
 
         good : searched.total.failure ≡ None → (status_of run.scope searched.total ≢ 2) → IsGood searched.total
@@ -282,8 +286,8 @@ module _ {F R W X : Type 0} (output : AllocError → Option (List ℕ)) (content
             → Step searched.mid (finishes (Ok tt)) run.last → Written
         ended-well none is finished =
             let is-well = subst (λ s. s ≢ 2) is other in
-            let (inputs, reader, are, now) = all-visited folders finds opens identifies Step
-            (λ engine. has_failed engine.printer) run.scope IsFile IsReader At kept unquiet searches input
+            let (inputs, reader, are, now) = ordered-visited folders finds opens identifies Step
+            (λ engine. has_failed engine.printer) run.scope IsFile IsReader At kept unquiet searches reads_input input
             run.run.left
             (paths_of options) start searched.total searched.mid searched.visited (good none is-well) at in
             let done = finishes-kept output facts first_at groups_at write_step file_remaining remaining read_step
@@ -361,7 +365,7 @@ module _ {F R W X : Type 0} (output : AllocError → Option (List ℕ)) (content
       where
         begun-ends : Ends Step (λ engine. has_failed engine.printer) Sound Cut run.run.failure run.run.begun
         begun-ends = all-said folders finds opens identifies Step
-            (λ engine. has_failed engine.printer) run.scope searches
+            (λ engine. has_failed engine.printer) run.scope searches reads_input
             Sound Cut keep run.first _ run.run.failure run.run.begun run.run.said sound-first
 
         begins : (failure : Option Error) → run.run.failure ≡ failure
@@ -374,7 +378,7 @@ module _ {F R W X : Type 0} (output : AllocError → Option (List ℕ)) (content
         begins None none searched = ran run.run.begun
             (said-all folders finds opens identifies Step
             (λ engine. has_failed engine.printer) run.scope IsFile IsReader At
-            kept unquiet searches false [] false input run.first _ run.run.failure run.run.begun run.run.said none
+            kept unquiet searches reads_input false [] false input run.first _ run.run.failure run.run.begun run.run.said none
             at-first)
             (subst (λ f. Ends Step (λ engine. has_failed engine.printer) Sound Cut f run.run.begun) none begun-ends)
             searched

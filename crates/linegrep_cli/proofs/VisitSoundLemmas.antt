@@ -18,6 +18,12 @@ use Rattle.linegrep_cli.specs.EngineCalls.{EngineCall, says, searches_file, sear
 use Rattle.linegrep_cli.specs.EngineSteps.{IsWrittenError}
 use Rattle.linegrep_cli.specs.OperandRuns.{AreAllVisited, AreEntriesVisited, AreVisited, AreWritten, EndsAs, IsEnded}
 use Rattle.linegrep_cli.specs.OperandRuns.{IsEntryVisited, IsFolderVisited, IsHereVisited}
+use Rattle.linegrep_cli.specs.OperandRuns.{AreSortedVisited, AreVisitedInOrder, AreVisitedLate, AreWaitingVisited}
+use Rattle.linegrep_cli.specs.OperandRuns.{IsFoundVisited, IsNoneSaid, IsWaitingVisited, is_bare, next_waiting}
+use Rattle.linegrep_cli.specs.OperandRuns.{no_visit, none_waiting, of_found_all, of_memory, of_searched, of_sorted}
+use Rattle.linegrep_cli.specs.OperandRuns.{of_standard_input, of_unfound_all, of_unsearched}
+use Rattle.linegrep_cli.specs.declared.late.Waiting.{Waiting}
+use Rattle.linegrep_files.specs.Orders.{is_late}
 use Rattle.linegrep_cli.specs.OperandRuns.{IsInputVisited}
 use Rattle.linegrep_cli.specs.OperandRuns.{IsNamedVisited, IsOperandVisited, IsPathVisited, IsReported, IsSaid}
 use Rattle.linegrep_cli.specs.OperandRuns.{ends_with_match, error_of, is_escaped, is_input, is_over, last_text}
@@ -82,7 +88,8 @@ module _ {E F : Type 0} (step : E → EngineCall F → E → Type 0) (has_failed
 module _ {E F : Type 0} (folders : FolderFacts) (finds : List ℕ → Result Bool Error → Type 0)
     (opens : List ℕ → Result F Error → Type 0) (identifies : F → Option FileId → Type 0)
     (step : E → EngineCall F → E → Type 0) (has_failed : E → Bool) (scope : Scope)
-    (searches : scope.lists_files ≡ false) (Sound : E → Type 0) (Cut : Error → E → Type 0)
+    (searches : scope.lists_files ≡ false) (reads : scope.lists_input ≡ false) (Sound : E → Type 0)
+    (Cut : Error → E → Type 0)
     (keep : CallsKeep step has_failed Sound Cut) where
   abbrev HasEnded : Option Error → E → Type 0
   HasEnded = Ends step has_failed Sound Cut
@@ -153,7 +160,8 @@ module _ {E F : Type 0} (folders : FolderFacts) (finds : List ℕ → Result Boo
 
   input-visited : (old : E) (visit : Visit) (new : E) → IsInputVisited step has_failed scope old visit new
       → Sound old → HasEnded visit.failure new
-  input-visited old visit new visited sound = either scope.lists_files (λ is_listing is. listed is_listing)
+  input-visited old visit new visited sound = either scope.lists_input
+      (λ is_listing is. absurd (true≢false (sym is_listing ∙ reads)))
       (λ is_listing is. either scope.leaves_out_input (λ out is_reported. reported old visit new is_reported sound)
       (λ out (name, is_name, searched, mid, searching, after).
       ended mid searched visit new after.ended (keep.input old mid _ searched searching sound))
@@ -186,6 +194,14 @@ module _ {E F : Type 0} (folders : FolderFacts) (finds : List ℕ → Result Boo
       entry-visited mid entry next new visited (still-sound total.failure mid (on-unfailed scope total on)
       (entries-visited old entries total mid before sound))
 
+  -- what is done about binary files makes no difference
+  quits-set : (failure : Option Error) (last new : E) → step last (sets_quits false) new → HasEnded failure last
+      → HasEnded failure new
+  quits-set None last new ends kept = keep.quits last new false ends kept
+  quits-set (Some error) last new ends (inl kept) = inl (keep.quits last new false ends kept)
+  quits-set (Some error) last new ends (inr (inl cut)) = inr (inl (keep.quits-cut last new false error ends cut))
+  quits-set (Some error) last new ends (inr (inr other)) = inr (inr other)
+
   folder-visited : (choices : Choices) (folder : List ℕ) (old : E) (visit : Visit) (new : E)
       → IsFolderVisited folders opens identifies step has_failed scope choices folder old visit new
       → Sound old → HasEnded visit.failure new
@@ -195,31 +211,29 @@ module _ {E F : Type 0} (folders : FolderFacts) (finds : List ℕ → Result Boo
       inside = entries-visited is.first is.tree.visited is.tree.total is.last is.tree.entries
           (keep.quits old is.first _ is.begins sound)
 
-      after : (failure : Option Error) → HasEnded failure is.last → HasEnded failure new
-      after None kept = keep.quits is.last new false is.ends kept
-      after (Some error) (inl kept) = inl (keep.quits is.last new false is.ends kept)
-      after (Some error) (inr (inl cut)) = inr (inl (keep.quits-cut is.last new false error is.ends cut))
-      after (Some error) (inr (inr other)) = inr (inr other)
-
       by : EndsAs is.tree.total visit → HasEnded visit.failure new
       by (inl same) = by-failure visit.failure is.tree.total.failure new (ap (λ (v : Visit). v.failure) same)
-          (after is.tree.total.failure inside)
+          (quits-set is.tree.total.failure is.last new is.ends inside)
       by (inr (error, memory, failed)) =
           by-failure visit.failure (Some error) new (ap (λ (v : Visit). v.failure) failed)
           (inr (inr (λ broken. open-memory (sym memory ∙ broken))))
 
+  none-said : (before : Visit) (mid : E) (visit : Visit) (new : E)
+      → IsNoneSaid step has_failed scope before mid visit new → HasEnded before.failure mid
+      → HasEnded visit.failure new
+  none-said before mid visit new is inside =
+      either (is_none before.failure && not before.has_searched && not scope.lists_files)
+      (λ none (failure, is_said, missed). by-failure visit.failure failure new
+      (ap (λ (v : Visit). v.failure) missed)
+      (said mid failure new is_said (still-sound before.failure mid (is-none before.failure _ _ none) inside)))
+      (λ some (same, moved). by-failure visit.failure before.failure new
+      (ap (λ (v : Visit). v.failure) same) (subst (HasEnded before.failure) (sym moved) inside)) is
+
   here-visited : (choices : Choices) (old : E) (visit : Visit) (new : E)
       → IsHereVisited folders opens identifies step has_failed scope choices old visit new → Sound old
       → HasEnded visit.failure new
-  here-visited choices old visit new is sound =
-      let inside = folder-visited choices [] old is.folder is.mid is.visited sound in
-      either (is_none is.folder.failure && not is.folder.has_searched && not scope.lists_files)
-      (λ none (failure, is_said, missed). by-failure visit.failure failure new
-      (ap (λ (v : Visit). v.failure) missed)
-      (said is.mid failure new is_said (still-sound is.folder.failure is.mid
-      (is-none is.folder.failure _ _ none) inside)))
-      (λ some (same, moved). by-failure visit.failure is.folder.failure new
-      (ap (λ (v : Visit). v.failure) same) (subst (HasEnded is.folder.failure) (sym moved) inside)) is.said
+  here-visited choices old visit new is sound = none-said is.folder is.mid visit new is.said
+      (folder-visited choices [] old is.folder is.mid is.visited sound)
 
   named-visited : (choices : Choices) (path : Bor (List ℕ)) (old : E) (visit : Visit) (new : E)
       → IsNamedVisited folders finds opens identifies step has_failed scope choices path old visit new
@@ -249,7 +263,7 @@ module _ {E F : Type 0} (folders : FolderFacts) (finds : List ℕ → Result Boo
       operand-visited choices path mid next new visited (still-sound total.failure mid (on-unfailed scope total on)
       (operands-visited choices old paths total mid before sound))
 
-  pub all-ended : (choices : Choices) (paths : List (Bor (List ℕ))) (old : E) (total : Visit) (new : E)
+  all-ended : (choices : Choices) (paths : List (Bor (List ℕ))) (old : E) (total : Visit) (new : E)
       → AreAllVisited folders finds opens identifies step has_failed scope choices paths old total new
       → Sound old → HasEnded total.failure new
   all-ended choices [] old total new visited sound = either scope.searches_input
@@ -257,3 +271,70 @@ module _ {E F : Type 0} (folders : FolderFacts) (finds : List ℕ → Result Boo
       (λ searched here. here-visited choices old total new here sound) visited
   all-ended choices (path ∷ later) old total new (done, rest, split, visited, ends) sound =
       operands-visited choices old done total new visited sound
+
+  waiting-visited : (waiting : Waiting) (old : E) (visit : Visit) (new : E)
+      → IsWaitingVisited opens identifies step has_failed scope waiting old visit new → Sound old
+      → HasEnded visit.failure new
+  waiting-visited waiting old visit new (of_standard_input target visited) sound =
+      input-visited old visit new visited sound
+  waiting-visited waiting old visit new
+      (of_searched {first = first} {last = last} quits path target is searching begins visited ends) sound =
+      quits-set visit.failure last new ends
+      (path-visited path first visit last visited (keep.quits old first quits begins sound))
+  waiting-visited waiting old visit new (of_unsearched quits path target is is_listing visited) sound =
+      listed is_listing
+
+  all-waiting-visited : (old : E) (done : List Waiting) (total : Visit) (new : E)
+      → AreWaitingVisited opens identifies step has_failed scope old done total new → Sound old
+      → HasEnded total.failure new
+  all-waiting-visited old _ _ _ none_waiting sound = sound
+  all-waiting-visited old _ _ new (next_waiting done total next {mid} waiting before on visited) sound =
+      waiting-visited waiting mid next new visited (still-sound total.failure mid (on-unfailed scope total on)
+      (all-waiting-visited old done total mid before sound))
+
+  sorted-visited : (found : List Waiting) (old : E) (visit : Visit) (new : E)
+      → AreSortedVisited folders opens identifies step has_failed scope found old visit new → Sound old
+      → HasEnded visit.failure new
+  sorted-visited found old visit new (of_sorted ranked sorted are_ranked in_order part) sound =
+      all-waiting-visited old part.done visit new part.visited sound
+  sorted-visited found old _ _ (of_memory error memory) sound =
+      inr (inr (λ broken. open-memory (sym memory ∙ broken)))
+
+  found-visited : (paths : List (Bor (List ℕ))) (found : List Waiting) (finding : Visit) (old : E) (visit : Visit)
+      (new : E)
+      → IsFoundVisited folders opens identifies step has_failed scope paths found finding old visit new → Sound old
+      → HasEnded visit.failure new
+  found-visited paths found finding old _ _ (of_unfound_all failed) sound = by finding.failure
+    where
+      by : (failure : Option Error) → HasEnded failure old
+      by None = sound
+      by (Some error) = inl sound
+  found-visited paths found finding old visit new (of_found_all next _ {mid} unfailed visited after) sound =
+      let inside = sorted-visited found old next mid visited sound in
+      either (is_bare paths && not scope.searches_input)
+      (λ bare none. none-said (record next { has_error = next.has_error || finding.has_error }) mid visit new none
+      inside)
+      (λ bare (same, moved). by-failure visit.failure next.failure new (ap (λ (v : Visit). v.failure) same)
+      (subst (HasEnded next.failure) (sym moved) inside)) after
+
+  late-ended : (choices : Choices) (paths : List (Bor (List ℕ))) (old : E) (total : Visit) (new : E)
+      → AreVisitedLate folders finds opens identifies step has_failed scope choices paths old total new
+      → Sound old → HasEnded total.failure new
+  late-ended choices paths old total new is sound = by is.failure
+      (all-said old _ is.failure is.mid is.said sound) is.visited
+    where
+      by : (failure : Option Error) → HasEnded failure is.mid
+          → MatchOption failure (IsFoundVisited folders opens identifies step has_failed scope paths
+          is.collector.found.items is.finding is.mid total new)
+          (λ error. (total ≡ record no_visit { failure = Some error }) × (new ≡ is.mid))
+          → HasEnded total.failure new
+      by None after visited = found-visited paths is.collector.found.items is.finding is.mid total new visited after
+      by (Some error) after (same, moved) = by-failure total.failure (Some error) new
+          (ap (λ (v : Visit). v.failure) same) (subst (HasEnded (Some error)) (sym moved) after)
+
+  pub ordered-ended : (choices : Choices) (paths : List (Bor (List ℕ))) (old : E) (total : Visit) (new : E)
+      → AreVisitedInOrder folders finds opens identifies step has_failed scope choices paths old total new
+      → Sound old → HasEnded total.failure new
+  ordered-ended choices paths old total new visited sound = either (is_late scope.route.order)
+      (λ late visited. late-ended choices paths old total new visited sound)
+      (λ late visited. all-ended choices paths old total new visited sound) visited

@@ -23,14 +23,18 @@ use Rattle.linegrep_cli.specs.OperandRuns.{next_operand as NextVisited, last_tex
 use Rattle.linegrep_cli.specs.OperandRuns.{of_file as OfFile}
 use Rattle.linegrep_cli.specs.OperandRuns.{of_file_at, of_folder as OfFolder, of_listed, of_listing, of_missing}
 use Rattle.linegrep_cli.specs.OperandRuns.{of_output}
+use Rattle.linegrep_cli.specs.OperandRuns.{AreWaitingVisited, IsWaitingVisited, next_waiting, none_waiting}
+use Rattle.linegrep_cli.specs.OperandRuns.{of_searched, of_standard_input, of_unsearched}
 use Rattle.linegrep_cli.specs.OperandRuns.{of_path, of_unfound, of_unopened, of_unread, of_entered, path_of}
 use Rattle.linegrep_cli.specs.OperandRuns.{seeks_unmatched, visited_then}
-use Rattle.linegrep_cli.specs.RunInputs.{AreFiles, AreOfFolder, AreOfOperand, AreOfOperands, AreSearched}
+use Rattle.linegrep_cli.specs.RunInputs.{AreFiles, AreOfFolder, AreOfOperand, AreOfOperands, AreOfWaiting}
+use Rattle.linegrep_cli.specs.RunInputs.{AreSearchedInTurn, file_waits, input_waits, none_waits}
 use Rattle.linegrep_cli.specs.RunInputs.{IsAtPath}
 use Rattle.linegrep_cli.specs.RunInputs.{IsStandardInput, next_file, next_folder, next_operand, no_entry as NoEntry}
 use Rattle.linegrep_cli.specs.RunInputs.{no_operand}
-use Rattle.linegrep_cli.specs.RunInputs.{of_file, of_folder, of_here, of_input, of_standard_input}
+use Rattle.linegrep_cli.specs.RunInputs.{of_file, of_folder, of_here, of_input, of_standard_input as OfStandardInput}
 use Rattle.linegrep_cli.specs.SearchTexts.{Input}
+use Rattle.linegrep_cli.specs.declared.late.Waiting.{Waiting}
 use Rattle.linegrep_cli.specs.declared.scope.Scope.{Scope}
 use Rattle.linegrep_cli.specs.declared.visit.Visit.{Visit}
 use Rattle.linegrep_files.specs.FolderFacts.{FolderFacts}
@@ -44,7 +48,7 @@ pub record IsGood (visit : Visit) : Type 0 where
   pub no_error : visit.has_error ≡ false
   pub no_failure : visit.failure ≡ None
 
-or-none : (found : Bool) → (found || false) ≡ found
+pub or-none : (found : Bool) → (found || false) ≡ found
 or-none true = refl
 or-none false = refl
 
@@ -52,43 +56,43 @@ or-assoc : (a b c : Bool) → ((a || b) || c) ≡ (a || (b || c))
 or-assoc true b c = refl
 or-assoc false b c = refl
 
-first-false : (a b : Bool) → (a || b) ≡ false → a ≡ false
+pub first-false : (a b : Bool) → (a || b) ≡ false → a ≡ false
 first-false true b is = is
 first-false false b is = refl
 
-second-false : (a b : Bool) → (a || b) ≡ false → b ≡ false
+pub second-false : (a b : Bool) → (a || b) ≡ false → b ≡ false
 second-false true b is = absurd (true≢false is)
 second-false false b is = is
 
-none-of : {T : Type 0} (found : Option T) → is_some found ≡ false → found ≡ None
+pub none-of : {T : Type 0} (found : Option T) → is_some found ≡ false → found ≡ None
 none-of None is = refl
 none-of (Some value) is = absurd (true≢false is)
 
-some-none : {T : Type 0} (found : Option T) (value : T) → found ≡ Some value → found ≡ None → ⊥
+pub some-none : {T : Type 0} (found : Option T) (value : T) → found ≡ Some value → found ≡ None → ⊥
 some-none found value is none = true≢false (ap is_some (sym is ∙ none))
 
 -- if nothing is said of a folder without a searched file, one was searched
-has-searched : (failure : Option Error) (searched lists : Bool)
+pub has-searched : (failure : Option Error) (searched lists : Bool)
     → (is_none failure && not searched && not lists) ≡ false → failure ≡ None → lists ≡ false → searched ≡ true
 has-searched None true lists unsaid none unlisted = refl
 has-searched None false true unsaid none unlisted = absurd (true≢false unlisted)
 has-searched None false false unsaid none unlisted = absurd (true≢false unsaid)
 has-searched (Some error) searched lists unsaid none unlisted = absurd (some-none (Some error) error refl none)
 
-some-more : (inputs : List Input) (input : Input) → 0 < length (inputs ++ input ∷ [])
+pub some-more : (inputs : List Input) (input : Input) → 0 < length (inputs ++ input ∷ [])
 some-more [] input = zero-lt-suc 0
 some-more (first ∷ later) input = zero-lt-suc (length (later ++ input ∷ []))
 
-unless : (is : Bool) (P Q : Type 0) → is ≡ false → MatchBool is P Q → Q
+pub unless : (is : Bool) (P Q : Type 0) → is ≡ false → MatchBool is P Q → Q
 unless true P Q isnt holds = absurd (true≢false isnt)
 unless false P Q isnt holds = holds
 
-either : (is : Bool) {P Q R : Type 0} → (is ≡ true → P → R) → (is ≡ false → Q → R) → MatchBool is P Q → R
+pub either : (is : Bool) {P Q R : Type 0} → (is ≡ true → P → R) → (is ≡ false → Q → R) → MatchBool is P Q → R
 either true one other holds = one refl holds
 either false one other holds = other refl holds
 
 -- if nothing went wrong in what was visited, and in what was visited next, nothing did in each
-both-good : (scope : Scope) (total next : Visit) → is_over scope total ≡ false → IsGood (visited_then total next)
+pub both-good : (scope : Scope) (total next : Visit) → is_over scope total ≡ false → IsGood (visited_then total next)
     → IsGood total × IsGood next
 both-good scope total next on good = (
   record {
@@ -107,6 +111,21 @@ pub goes-on : (scope : Scope) → scope.quiet ≡ None → (visit : Visit) → I
 goes-on scope unquiet visit good =
     ap (λ failure. is_some failure || (ends_with_match scope.quiet && visit.has_match)) good.no_failure
     ∙ ap (λ quiet. ends_with_match quiet && visit.has_match) unquiet
+
+-- a search that ended well left all as it was
+pub search-ended : {E F : Type 0} (step : E → EngineCall F → E → Type 0) (has_failed : E → Bool) (scope : Scope)
+    (mid new : E) (result : Result (Unit {0}) (SearchError Global)) (visit : Visit)
+    → IsEnded step has_failed scope mid result visit new → IsGood visit → (result ≡ Ok tt) × (new ≡ mid)
+search-ended step has_failed scope mid new (Ok u) visit (unfailed, none, same) good = (refl, same)
+search-ended step has_failed scope mid new (Err e) visit failed good = absurd (either (has_failed mid)
+    (λ is (unread, same, (error, is_error, written)). some-none visit.failure error is_error good.no_failure)
+    (λ is (unread, said). true≢false (sym unread ∙ good.no_error)) failed)
+
+-- something went wrong if something can't be read
+pub reported-bad : {E F : Type 0} (step : E → EngineCall F → E → Type 0) (scope : Scope) (old new : E)
+    (visit : Visit) → IsReported step scope old visit new → IsGood visit → ⊥
+reported-bad step scope old new visit (failure, said, is) good =
+    true≢false (sym (ap (λ (v : Visit). v.has_error) is) ∙ good.no_error)
 
 module _ {E F R : Type 0} (folders : FolderFacts) (finds : List ℕ → Result Bool Error → Type 0)
     (opens : List ℕ → Result F Error → Type 0) (identifies : F → Option FileId → Type 0)
@@ -132,13 +151,11 @@ module _ {E F R : Type 0} (folders : FolderFacts) (finds : List ℕ → Result B
     pub quits : (quits next : Bool) (inputs : List Input) (found : Bool) (reader : R) (old new : E)
         → At quits inputs found reader old → step old (sets_quits next) new → At next inputs found reader new
 
-  module _ (kept : StepsKeep) (unquiet : scope.quiet ≡ None) (searches : scope.lists_files ≡ false) where
-    ended : (mid new : E) (result : Result (Unit {0}) (SearchError Global)) (visit : Visit)
+  module _ (kept : StepsKeep) (unquiet : scope.quiet ≡ None) (searches : scope.lists_files ≡ false)
+      (reads : scope.lists_input ≡ false) where
+    abbrev ended : (mid new : E) (result : Result (Unit {0}) (SearchError Global)) (visit : Visit)
         → IsEnded step has_failed scope mid result visit new → IsGood visit → (result ≡ Ok tt) × (new ≡ mid)
-    ended mid new (Ok u) visit (unfailed, none, same) good = (refl, same)
-    ended mid new (Err e) visit failed good = absurd (either (has_failed mid)
-        (λ is (unread, same, (error, is_error, written)). some-none visit.failure error is_error good.no_failure)
-        (λ is (unread, said). true≢false (sym unread ∙ good.no_error)) failed)
+    ended = search-ended step has_failed scope
 
     found-is : (searched : Searched) → has_found scope searched ≡ searched.has_match
     found-is searched = ap (λ quiet. if seeks_unmatched quiet then is_ok searched.result && not searched.has_match
@@ -163,9 +180,8 @@ module _ {E F R : Type 0} (folders : FolderFacts) (finds : List ℕ → Result B
               (sym (after.matched ∙ found-is searched)) now),
         )
 
-    reported : (old new : E) (visit : Visit) → IsReported step scope old visit new → IsGood visit → ⊥
-    reported old new visit (failure, said, is) good =
-        true≢false (sym (ap (λ (v : Visit). v.has_error) is) ∙ good.no_error)
+    abbrev reported : (old new : E) (visit : Visit) → IsReported step scope old visit new → IsGood visit → ⊥
+    reported = reported-bad step scope
 
     listed : {T : Type 0} → scope.lists_files ≡ true → T
     listed is = absurd (true≢false (sym is ∙ searches))
@@ -201,7 +217,7 @@ module _ {E F R : Type 0} (folders : FolderFacts) (finds : List ℕ → Result B
               (subst (λ match. At false (inputs ++ input ∷ []) (found || match) reader' mid)
               (sym (after.matched ∙ found-is searched)) now),
         ))
-        (unless scope.lists_files _ _ searches visited)
+        (unless scope.lists_input _ _ reads visited)
 
     -- texts on standard error
     pub said-all : (quits : Bool) (inputs : List Input) (found : Bool) (reader : R) (old : E) (count : ℕ)
@@ -337,6 +353,51 @@ module _ {E F R : Type 0} (folders : FolderFacts) (finds : List ℕ → Result B
         ))
         is.said
 
+    -- what is searched of what waits
+    abbrev WithWaiting : R → List Waiting → Bool → Bool → E → Type 0
+    WithWaiting first done found searched new = (inputs : List Input) × (reader : R)
+        × AreOfWaiting folders finds opens identifies scope IsFile IsReader first done inputs reader
+        × (searched ≡ true → 0 < length inputs) × At false inputs found reader new
+
+    waiting-visited : (first : R) (done : List Waiting) (found searched : Bool) (mid : E) (waiting : Waiting)
+        (visit : Visit) (new : E) → IsWaitingVisited opens identifies step has_failed scope waiting mid visit new
+        → IsGood visit → WithWaiting first done found searched mid
+        → WithWaiting first (done ++ waiting ∷ []) (found || visit.has_match) (searched || visit.has_searched) new
+    waiting-visited first done found searched mid waiting visit new (of_standard_input target visited) good
+        (inputs, reader, are, some, at) =
+        let (input, reader', is, now) = input-visited inputs found reader mid visit new visited good at in (
+          inputs ++ input ∷ [],
+          reader',
+          input_waits waiting input are target is,
+          λ has. some-more inputs input,
+          now,
+        )
+    waiting-visited first done found searched mid waiting visit new
+        (of_searched {first = begun} {last = last} quits path target is searching begins visited ends) good
+        (inputs, reader, are, some, at) =
+        let (input, is_at, now) = path-visited quits inputs found reader path begun visit last visited good
+        (kept.quits false quits inputs found reader mid begun at begins) in (
+          inputs ++ input ∷ [],
+          reader,
+          file_waits waiting quits path input are target is is_at,
+          λ has. some-more inputs input,
+          kept.quits quits false (inputs ++ input ∷ []) (found || visit.has_match) reader last new now ends,
+        )
+    waiting-visited first done found searched mid waiting visit new
+        (of_unsearched quits path target is lists visited) good with_it =
+        listed lists
+
+    pub all-waiting-visited : (first : R) (old : E) (done : List Waiting) (total : Visit) (new : E)
+        → AreWaitingVisited opens identifies step has_failed scope old done total new → IsGood total
+        → At false [] false first old → WithWaiting first done total.has_match total.has_searched new
+    all-waiting-visited first old _ _ _ none_waiting good at =
+        ([], first, none_waits, λ has. absurd (true≢false (sym has)), at)
+    all-waiting-visited first old _ _ new (next_waiting done total next {mid} waiting before on visited) good at =
+        let (good_before, good_next) = both-good scope total next on good in
+        waiting-visited first done total.has_match total.has_searched mid waiting next new visited good_next
+        (all-waiting-visited first old done total mid before good_before at)
+
+    -- what is searched for an operand, and for operands in a row
     -- what is searched for an operand, and for operands in a row
     abbrev WithOperand : Choices → Bor (List ℕ) → List Input → Bool → R → E → Type 0
     WithOperand choices path inputs found reader new = (next : List Input) × (reader' : R)
@@ -400,13 +461,13 @@ module _ {E F R : Type 0} (folders : FolderFacts) (finds : List ℕ → Result B
         → AreAllVisited folders finds opens identifies step has_failed scope choices paths old total new → IsGood total
         → At false [] false reader old
         → (inputs : List Input) × (reader' : R)
-        × AreSearched folders finds opens identifies scope IsFile IsReader choices paths reader inputs reader'
+        × AreSearchedInTurn folders finds opens identifies scope IsFile IsReader choices paths reader inputs reader'
         × At false inputs total.has_match reader' new
     all-visited reader choices [] old total new visited good at =
         either scope.searches_input
         (λ searched standard.
         let (input, reader', is, now) = input-visited [] false reader old total new standard good at in
-        (input ∷ [], reader', of_standard_input input searched is, now))
+        (input ∷ [], reader', OfStandardInput input searched is, now))
         (λ searched here.
         let (inputs, of, some, now) = here-visited [] false reader choices old total new here good at in
         (inputs, reader, of_here searched of some, now))

@@ -31,6 +31,7 @@ pub mod SearcherOptions
 pub mod SeparatorOptions
 pub mod TemplateOptions
 pub mod TerminalColors
+pub mod WaitingFiles
 pub mod WholeRuns
 pub mod WriterFlushes
 pub mod WrittenRuns

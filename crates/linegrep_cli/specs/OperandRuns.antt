@@ -20,10 +20,15 @@ use Rattle.linegrep_cli.specs.declared.scope.Messages.TheVariants.{Full, Silent,
 use Rattle.linegrep_cli.specs.declared.scope.Quiet.{Quiet}
 use Rattle.linegrep_cli.specs.declared.scope.Scope.{Scope}
 use Rattle.linegrep_cli.specs.declared.visit.Visit.{Visit}
+use Rattle.linegrep_cli.specs.WaitingFiles.{AreInOrder, AreRanked, IsEmpty, IsCollecting}
+use Rattle.linegrep_cli.specs.declared.late.Collector.{Collector}
+use Rattle.linegrep_cli.specs.declared.late.Target.TheVariants.{File as FileTarget, StandardInput}
+use Rattle.linegrep_cli.specs.declared.late.Waiting.{Waiting}
 use Rattle.grep_printer.specs.declared.printed_search.Searched.{Searched}
 use Rattle.linegrep_files.specs.Choices.{SaysTheSame, notes_of, warnings_of}
 use Rattle.linegrep_files.specs.FileIds.{is_same_file}
 use Rattle.linegrep_files.specs.FolderFacts.{FolderFacts}
+use Rattle.linegrep_files.specs.Orders.{by_path, is_late}
 use Rattle.linegrep_files.specs.Trees.{AreAllOf, AreFirstOf}
 use Rattle.linegrep_files.specs.Walks.{IsNoted}
 use Rattle.linegrep_files.specs.declared.choices.Choices.{Choices}
@@ -83,6 +88,22 @@ path_of scope name = if scope.shows_paths then Some name else None
 abbrev pub is_over : Scope → Visit → Bool
 is_over scope total =
     is_some total.failure || (ends_with_match scope.quiet && total.has_match)
+
+-- to find what a run searches, before it searches anything: each file is listed, and standard input
+-- isn't left out yet. In a folder files are found in the order of paths
+abbrev pub finding_scope : Scope → Scope
+finding_scope scope = record scope {
+  lists_files = true;
+  lists_input = false;
+  leaves_out_input = false;
+  quiet = None;
+  route = record { follows_links = scope.route.follows_links; order = by_path };
+}
+
+-- there is no operand
+abbrev pub is_bare : List (Bor (List ℕ)) → Bool
+is_bare [] = true
+is_bare (path ∷ later) = false
 
 -- what was visited of a folder is all that is visited of it, by choices; or the beginning of that,
 -- if it ended the run
@@ -210,7 +231,7 @@ module _ {E F : Type 0} (step : E → EngineCall F → E → Type 0) (has_failed
 
   -- standard input is searched, unless it is the output. If files are listed, its name is written
   abbrev pub IsInputVisited : E → Visit → E → Type 0
-  IsInputVisited old visit new = MatchBool scope.lists_files
+  IsInputVisited old visit new = MatchBool scope.lists_input
       ((name : Bor (List ℕ)) × (name.now ≡ codes "<stdin>") × IsListed name old visit new)
       (MatchBool scope.leaves_out_input (IsReported step scope old visit new)
       ((name : Bor (List ℕ)) × (name.now ≡ codes "<stdin>") × (searched : Searched) × (mid : E)
@@ -222,6 +243,15 @@ module _ {E F : Type 0} (step : E → EngineCall F → E → Type 0) (has_failed
   IsFileVisited path file old visit new = (searched : Searched) × (mid : E)
       × step old (searches_file (path_of scope path) file searched) mid
       × IsKept mid searched visit new
+
+  -- after a visit of the current folder: if no file was searched in it, and nothing failed, standard
+  -- error says so
+  abbrev pub IsNoneSaid : Visit → E → Visit → E → Type 0
+  IsNoneSaid before mid visit new = MatchBool
+      (is_none before.failure && not before.has_searched && not scope.lists_files)
+      ((failure : Option Error) × IsSaid step scope mid failure new
+      × (visit ≡ record before { has_error = true; failure = failure }))
+      ((visit ≡ before) × (new ≡ mid))
 
   -- the run fails. It says why, unless nobody reads what is written
   pub data IsFailing (error : Error) (old : E) : ℕ → E → Type 0 where
@@ -252,6 +282,38 @@ module _ {E F : Type 0} (opens : List ℕ → Result F Error → Type 0)
     of_file : (file : F) → opens path.now (Ok file) → IsLeftOut identifies scope file false
         → IsFileVisited step has_failed scope path file old visit new
         → IsPathVisited path old visit new
+
+  -- what waits is searched, or its path is written
+  pub data IsWaitingVisited (waiting : Waiting) (old : E) (visit : Visit) (new : E) : Type 0 where
+    of_standard_input : waiting.target ≡ StandardInput
+        → IsInputVisited step has_failed scope old visit new
+        → IsWaitingVisited waiting old visit new
+    of_searched : {first last : E} (quits : Bool) (path : Bor (List ℕ))
+        → waiting.target ≡ FileTarget quits → path.now ≡ string_bytes waiting.file.path
+        → scope.lists_files ≡ false → step old (sets_quits quits) first
+        → IsPathVisited path first visit last → step last (sets_quits false) new
+        → IsWaitingVisited waiting old visit new
+    of_unsearched : (quits : Bool) (path : Bor (List ℕ)) → waiting.target ≡ FileTarget quits
+        → path.now ≡ string_bytes waiting.file.path → scope.lists_files ≡ true
+        → IsListed step has_failed scope path old visit new
+        → IsWaitingVisited waiting old visit new
+
+  -- what waits is visited in order. Only the last may have ended the run
+  pub data AreWaitingVisited (old : E) : List Waiting → Visit → E → Type 0 where
+    none_waiting : AreWaitingVisited old [] no_visit old
+    next_waiting : (done : List Waiting) (total next : Visit) {mid new : E} (waiting : Waiting)
+        → AreWaitingVisited old done total mid → is_over scope total ≡ false
+        → IsWaitingVisited waiting mid next new
+        → AreWaitingVisited old (done ++ waiting ∷ []) (visited_then total next) new
+
+  -- what waits is visited, up to what ended the run
+  pub record AreFirstVisited (old : E) (sorted : List Waiting) (visit : Visit) (new : E) : Type 0
+    where
+      pub done : List Waiting
+      pub rest : List Waiting
+      pub split : sorted ≡ done ++ rest
+      pub visited : AreWaitingVisited old done visit new
+      pub ends : (rest ≡ []) ⊎ (is_over scope visit ≡ true)
 
   -- an entry of a folder is visited. A file is searched or listed; of a folder, what is wrong with
   -- its ignore files is said, and what in it isn't visited; of what can't be read, that is said
@@ -301,11 +363,7 @@ module _ {E F : Type 0} (folders : FolderFacts) (opens : List ℕ → Result F E
     pub mid : E
     pub folder : Visit
     pub visited : IsFolderVisited [] old folder mid
-    pub said : MatchBool
-        (is_none folder.failure && not folder.has_searched && not scope.lists_files)
-        ((failure : Option Error) × IsSaid step scope mid failure new
-        × (visit ≡ record folder { has_error = true; failure = failure }))
-        ((visit ≡ folder) × (new ≡ mid))
+    pub said : IsNoneSaid step has_failed scope folder mid visit new
 
 module _ {E F : Type 0} (folders : FolderFacts) (finds : List ℕ → Result Bool Error → Type 0)
     (opens : List ℕ → Result F Error → Type 0) (identifies : F → Option FileId → Type 0)
@@ -354,12 +412,71 @@ module _ {E F : Type 0} (folders : FolderFacts) (finds : List ℕ → Result Boo
       × (path ∷ later ≡ done ++ rest) × AreVisited old done total new
       × ((rest ≡ []) ⊎ (is_over scope total ≡ true))
 
+module _ {E F : Type 0} (folders : FolderFacts) (opens : List ℕ → Result F Error → Type 0)
+    (identifies : F → Option FileId → Type 0) (step : E → EngineCall F → E → Type 0)
+    (has_failed : E → Bool) (scope : Scope) where
+  -- what was found is sorted and visited in that order, up to what ended the run, unless memory is
+  -- out
+  pub data AreSortedVisited (found : List Waiting) (old : E) : Visit → E → Type 0 where
+    of_sorted : {visit : Visit} {new : E} (ranked sorted : List Waiting)
+        → AreRanked folders.times scope.route.order found ranked
+        → AreInOrder scope.route.order ranked sorted
+        → AreFirstVisited opens identifies step has_failed scope old sorted visit new
+        → AreSortedVisited found old visit new
+    of_memory : (error : Error) → error_kind error ≡ OutOfMemory
+        → AreSortedVisited found old (record no_visit { failure = Some error }) old
+
+  -- how a run goes on after what came of finding what is searched: that is visited in order, unless
+  -- finding it failed. Without an operand standard error says if there is nothing to search
+  pub data IsFoundVisited (paths : List (Bor (List ℕ))) (found : List Waiting) (finding : Visit)
+      (old : E) : Visit → E → Type 0 where
+    of_unfound_all : is_some finding.failure ≡ true
+        → IsFoundVisited paths found finding old
+        (record no_visit { failure = finding.failure }) old
+    of_found_all : (next visit : Visit) {mid new : E} → is_some finding.failure ≡ false
+        → AreSortedVisited found old next mid
+        → MatchBool (is_bare paths && not scope.searches_input)
+        (IsNoneSaid step has_failed scope
+        (record next { has_error = next.has_error || finding.has_error }) mid visit new)
+        ((visit ≡ record next { has_error = next.has_error || finding.has_error }) × (new ≡ mid))
+        → IsFoundVisited paths found finding old visit new
+
+module _ {E F : Type 0} (folders : FolderFacts) (finds : List ℕ → Result Bool Error → Type 0)
+    (opens : List ℕ → Result F Error → Type 0) (identifies : F → Option FileId → Type 0)
+    (step : E → EngineCall F → E → Type 0) (has_failed : E → Bool) (scope : Scope)
+    (choices : Choices) where
+  -- all that is visited is found first. Then standard error says what can't be, and what was found
+  -- is visited
+  pub record AreVisitedLate (paths : List (Bor (List ℕ))) (old : E) (visit : Visit) (new : E)
+      : Type 0 where
+    pub begun : Collector
+    pub collector : Collector
+    pub begins : IsEmpty begun
+    pub finding : Visit
+    pub finds_all : AreAllVisited folders finds opens identifies IsCollecting
+        (λ collector. collector.is_full) (finding_scope scope) choices paths begun finding collector
+    pub failure : Option Error
+    pub mid : E
+    pub said : AreWritten step old (length collector.texts.items) failure mid
+    pub visited : MatchOption failure
+        (IsFoundVisited folders opens identifies step has_failed scope paths collector.found.items
+        finding mid visit new)
+        (λ error. (visit ≡ record no_visit { failure = Some error }) × (new ≡ mid))
+
+  -- all that is visited, in the order that is asked for: if all has to be found first, the files of
+  -- all operands together, and otherwise what each operand names, in turn
+  abbrev pub AreVisitedInOrder : List (Bor (List ℕ)) → E → Visit → E → Type 0
+  AreVisitedInOrder paths old total new = MatchBool (is_late scope.route.order)
+      (AreVisitedLate paths old total new)
+      (AreAllVisited folders finds opens identifies step has_failed scope choices paths old total
+      new)
+
   -- operands are visited, and the status follows from what came of that
   pub record AreOperandsSearched (paths : List (Bor (List ℕ))) (old : E) (status : ℕ) (new : E)
       : Type 0 where
     pub total : Visit
     pub mid : E
-    pub visited : AreAllVisited paths old total mid
+    pub visited : AreVisitedInOrder paths old total mid
     pub ended : IsRunEnd step has_failed scope total mid status new
 
 module _ {E F : Type 0} (folders : FolderFacts) (finds : List ℕ → Result Bool Error → Type 0)

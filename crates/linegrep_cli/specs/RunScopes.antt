@@ -56,6 +56,7 @@ scope_of options several = record {
   searches_binary = searches_binary options;
   route = record { follows_links = has options Follow; order = order_for options };
   lists_files = has options Files;
+  lists_input = has options Files;
   shows_paths = shows_paths options (not (searches_input options) && several);
   messages = messages_of options;
   explains = has options Debug;

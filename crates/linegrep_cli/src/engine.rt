@@ -256,8 +256,8 @@ impl<'e, F: Read + Drop, M: CapturesAt + Copy, R: Source, W: Output, E: Output> 
     }
 }
 
-// The result if nothing was searched, since there is no memory.
-fn unsearched() -> Searched
+/// The result if nothing was searched, since there is no memory.
+pub fn unsearched() -> Searched
     ensures { IsUnsearched result }
 {
     Searched {

@@ -1,14 +1,18 @@
 //! A run over files.
-ghost use Rattle.std.specs.Prelude.{◌≡◌, ◌↔◌, ℕ, [], false, true, length, IsTrue, Option, Result};
+ghost use Rattle.std.specs.Prelude.{◌≡◌, ◌↔◌, ◌&&◌, not, ℕ, [], false, true, length, IsTrue, Option, Result};
 ghost use Rattle.std.specs.Prelude.{None, String, if◌then◌else◌, string_bytes};
 ghost use Rattle.std.specs.Global.{Global};
 ghost use Rattle.std.specs.IoError.{error_kind};
 ghost use Rattle.std.specs.declared.io.ErrorKind.TheVariants.{BrokenPipe};
 ghost use Rattle.linegrep_cli.specs.EngineCalls.{says};
 ghost use Rattle.std.specs.declared.io.Error.{Error};
-ghost use Rattle.linegrep_cli.specs.OperandRuns.{AreAllVisited, AreOperandsSearched, AreSaid};
+ghost use Rattle.linegrep_cli.specs.OperandRuns.{AreAllVisited, AreFirstVisited};
+ghost use Rattle.linegrep_cli.specs.OperandRuns.{AreOperandsSearched, AreSaid, AreSortedVisited};
+ghost use Rattle.linegrep_cli.specs.OperandRuns.{AreVisitedInOrder, AreVisitedLate};
 ghost use Rattle.linegrep_cli.specs.OperandRuns.{AreWritten, IsEntryVisited, IsFailing};
-ghost use Rattle.linegrep_cli.specs.OperandRuns.{IsExplained, IsFileVisited, IsTold};
+ghost use Rattle.linegrep_cli.specs.OperandRuns.{IsExplained, IsFileVisited, IsFoundVisited};
+ghost use Rattle.linegrep_cli.specs.OperandRuns.{IsNoneSaid, IsTold, IsWaitingVisited};
+ghost use Rattle.linegrep_cli.specs.OperandRuns.{error_of, finding_scope, is_bare};
 ghost use Rattle.linegrep_cli.specs.OperandRuns.{IsFolderVisited, IsHereVisited, IsInputVisited};
 ghost use Rattle.linegrep_cli.specs.OperandRuns.{IsKept, IsListed, IsNamedVisited};
 ghost use Rattle.linegrep_cli.specs.OperandRuns.{IsOperandVisited};
@@ -23,6 +27,7 @@ ghost use Rattle.linegrep_files.specs.declared.entry.Entry.TheVariants.{Folder};
 
 use crate::engine::{Engine, written_error};
 use crate::failures::{Failure, output_failure};
+use crate::late::{Collector, STDIN, Target, Waiting, in_order};
 use crate::scope::{Scope, is_same};
 use crate::system::System;
 use crate::visit::Visit;
@@ -31,9 +36,6 @@ use grep_printer::Searched;
 use linegrep_files::{Choices, Entry, NOT_UTF8, Note, Walk};
 use std::fmt::Display;
 use std::io;
-
-// The name of standard input.
-const STDIN: &str = "<stdin>";
 
 const NO_FILE: &str = "no file was searched: none is chosen by -g or -t, or all are hidden or \
     ignored, which -uu searches too; --files lists those that are searched";
@@ -95,8 +97,150 @@ impl<'r, S: System> Run<'r, S> {
         }
     }
 
-    // Visits what some paths name, or what is searched if there is no path.
+    // Visits what some paths name, or what is searched if there is no path, in the order that is
+    // asked for.
     fn visit_operands<E: Engine<S::File>>(
+        &self,
+        engine: &mut E,
+        choices: &mut Choices<'r>,
+        paths: &[&str],
+    ) -> Visit
+        ensures { AreVisitedInOrder (S.facts self.now.system.now) (S.finds self.now.system.now)
+            (S.opens self.now.system.now) (S.identifies self.now.system.now) E.step E.has_failed
+            self.now.scope choices.old paths.now engine.old result engine.new }
+    {
+        if self.scope.route.order.is_late() {
+            self.visit_late(engine, choices, paths)
+        } else {
+            self.visit_in_turn(engine, choices, paths)
+        }
+    }
+
+    // Finds all that is to be searched, says what can't be found, and then visits what was found,
+    // in order.
+    fn visit_late<E: Engine<S::File>>(
+        &self,
+        engine: &mut E,
+        choices: &mut Choices<'r>,
+        paths: &[&str],
+    ) -> Visit
+        ensures { AreVisitedLate (S.facts self.now.system.now) (S.finds self.now.system.now)
+            (S.opens self.now.system.now) (S.identifies self.now.system.now) E.step E.has_failed
+            self.now.scope choices.old paths.now engine.old result engine.new }
+    {
+        let mut collector = Collector::new(self.rt.alloc());
+        let finding = self.finding().visit_in_turn(&mut collector, choices, paths);
+        let (found, texts) = collector.into_parts();
+        match self.say_texts(engine, texts.as_slice()) {
+            Ok(()) => self.visit_found(engine, paths, found, finding),
+            Err(error) => Visit::failed(Some(error)),
+        }
+    }
+
+    // The run that finds what this one searches.
+    fn finding(&self) -> Run<'r, S>
+        ensures system { result.system ≡ self.now.system }
+        ensures scope { result.scope ≡ finding_scope self.now.scope }
+    {
+        Run {
+            rt: self.rt,
+            system: self.system,
+            scope: self.scope.finding(),
+        }
+    }
+
+    // Says what was to be said while what is searched was found. If what was found before can't be
+    // written, nothing more is said, and the error is the writer's.
+    fn say_texts<E: Engine<S::File>>(&self, engine: &mut E, texts: &[String]) -> io::Result<()>
+        ensures { AreWritten E.step engine.old (length texts.now) (error_of result) engine.new }
+    {
+        for text in texts {
+            match engine.say(text.as_str()) {
+                Ok(()) => {}
+                Err(error) => return Err(error),
+            }
+        }
+        Ok(())
+    }
+
+    // Visits what was found for some paths, by what came of finding it.
+    fn visit_found<E: Engine<S::File>>(
+        &self,
+        engine: &mut E,
+        paths: &[&str],
+        found: Vec<Waiting>,
+        finding: Visit,
+    ) -> Visit
+        ensures { IsFoundVisited (S.facts self.now.system.now) (S.opens self.now.system.now)
+            (S.identifies self.now.system.now) E.step E.has_failed self.now.scope paths.now
+            found.items finding engine.old result engine.new }
+    {
+        if finding.failure.is_some() {
+            return Visit::failed(finding.failure);
+        }
+        let mut visit = self.visit_sorted(engine, found);
+        visit.add_error(finding.has_error);
+        if self.is_here(paths) {
+            self.say_if_none(engine, visit)
+        } else {
+            visit
+        }
+    }
+
+    // Whether the current folder is searched, since there is no path.
+    fn is_here(&self, paths: &[&str]) -> bool
+        ensures { result ≡ (is_bare paths.now && not self.now.scope.searches_input) }
+    {
+        paths.is_empty() && !self.scope.searches_input
+    }
+
+    // Visits what was found, in order, unless memory is out.
+    fn visit_sorted<E: Engine<S::File>>(&self, engine: &mut E, found: Vec<Waiting>) -> Visit
+        ensures { AreSortedVisited (S.facts self.now.system.now) (S.opens self.now.system.now)
+            (S.identifies self.now.system.now) E.step E.has_failed self.now.scope found.items
+            engine.old result engine.new }
+    {
+        match in_order(self.rt.alloc(), self.system, self.scope.route.order, found) {
+            Ok(sorted) => self.visit_all_waiting(engine, sorted.as_slice()),
+            Err(_) => Visit::failed(Some(io::Error::from(io::ErrorKind::OutOfMemory))),
+        }
+    }
+
+    // Visits what waits, up to what ends the run.
+    fn visit_all_waiting<E: Engine<S::File>>(&self, engine: &mut E, sorted: &[Waiting]) -> Visit
+        ensures { AreFirstVisited (S.opens self.now.system.now) (S.identifies self.now.system.now)
+            E.step E.has_failed self.now.scope engine.old sorted.now result engine.new }
+    {
+        let mut total = Visit::none();
+        for waiting in sorted {
+            total.add(self.visit_waiting(engine, waiting));
+            if self.scope.is_over(&total) {
+                return total;
+            }
+        }
+        total
+    }
+
+    // Searches what waits, or writes its path.
+    fn visit_waiting<E: Engine<S::File>>(&self, engine: &mut E, waiting: &Waiting) -> Visit
+        ensures { IsWaitingVisited (S.opens self.now.system.now) (S.identifies self.now.system.now)
+            E.step E.has_failed self.now.scope waiting.now engine.old result engine.new }
+    {
+        let path = waiting.file.path.as_str();
+        match waiting.target {
+            Target::StandardInput => self.visit_input(engine),
+            Target::File { quits: _ } if self.scope.lists_files => self.list(engine, path),
+            Target::File { quits } => {
+                engine.set_quits(quits);
+                let visit = self.visit_path(engine, path);
+                engine.set_quits(false);
+                visit
+            }
+        }
+    }
+
+    // Visits what some paths name, one after another, or what is searched if there is no path.
+    fn visit_in_turn<E: Engine<S::File>>(
         &self,
         engine: &mut E,
         choices: &mut Choices<'r>,
@@ -138,7 +282,16 @@ impl<'r, S: System> Run<'r, S> {
             (S.identifies self.now.system.now) E.step E.has_failed self.now.scope choices.old
             engine.old result engine.new }
     {
-        let mut visit = self.visit_folder(engine, choices, "");
+        let visit = self.visit_folder(engine, choices, "");
+        self.say_if_none(engine, visit)
+    }
+
+    // Says that no file was searched in the current folder, if none was and nothing failed.
+    fn say_if_none<E: Engine<S::File>>(&self, engine: &mut E, before: Visit) -> Visit
+        ensures { IsNoneSaid E.step E.has_failed self.now.scope before engine.old result
+            engine.new }
+    {
+        let mut visit = before;
         if visit.failure.is_none() && !visit.has_searched && !self.scope.lists_files {
             visit.has_error = true;
             visit.failure = self.say(engine, &Failure::new(self.rt.alloc(), &NO_FILE));
@@ -336,7 +489,7 @@ impl<'r, S: System> Run<'r, S> {
     fn visit_input<E: Engine<S::File>>(&self, engine: &mut E) -> Visit
         ensures { IsInputVisited E.step E.has_failed self.now.scope engine.old result engine.new }
     {
-        if self.scope.lists_files {
+        if self.scope.lists_input {
             return self.list(engine, STDIN);
         }
         if self.scope.leaves_out_input {

@@ -17,6 +17,7 @@ mod file_options;
 mod file_run;
 mod haystacks;
 mod json_run;
+mod late;
 mod lists;
 mod looks;
 mod named_patterns;

@@ -1,6 +1,7 @@
 //! What the options say of a run.
 ghost use Rattle.std.specs.Prelude.{◌≡◌};
-ghost use Rattle.linegrep_cli.specs.OperandRuns.{ends_with_match, has_found, is_over, is_same};
+ghost use Rattle.linegrep_cli.specs.OperandRuns.{ends_with_match, finding_scope, has_found};
+ghost use Rattle.linegrep_cli.specs.OperandRuns.{is_over, is_same};
 ghost use Rattle.linegrep_cli.specs.OperandRuns.{path_of, says_errors, says_warnings};
 ghost use Rattle.linegrep_cli.specs.OperandRuns.{seeks_unmatched};
 ghost use Rattle.linegrep_cli.specs.OperandRuns.{status_of};
@@ -10,7 +11,7 @@ use crate::options::Options;
 use crate::system::System;
 use crate::visit::Visit;
 use grep_printer::Searched;
-use linegrep_files::{FileId, Route};
+use linegrep_files::{FileId, Order, Route};
 use linegrep_options::OptionId;
 
 /// What the options say of a run.
@@ -24,6 +25,8 @@ pub struct Scope {
     pub route: Route,
     /// Whether the paths of files are written, and nothing is searched.
     pub lists_files: bool,
+    /// Whether the name of standard input is written, and it isn't searched.
+    pub lists_input: bool,
     shows_paths: bool,
     /// What standard error says of what goes wrong.
     pub messages: Messages,
@@ -70,6 +73,7 @@ impl Scope {
                 order: options.order(),
             },
             lists_files: options.has(OptionId::Files),
+            lists_input: options.has(OptionId::Files),
             shows_paths: options.shows_paths(
                 !searches_input && searches_several(system, options.paths()),
             ),
@@ -79,6 +83,20 @@ impl Scope {
             left_out: options.left_out(),
             leaves_out_input: is_same(options.left_out(), options.streams.input),
         }
+    }
+
+    /// The same to find what a run searches, before it searches anything. Each file is listed then,
+    /// and standard input isn't left out yet.
+    pub fn finding(&self) -> Scope
+        ensures { result ≡ finding_scope self.now }
+    {
+        let mut scope = *self;
+        scope.lists_files = true;
+        scope.lists_input = false;
+        scope.leaves_out_input = false;
+        scope.quiet = None;
+        scope.route.order = Order::by_path();
+        scope
     }
 
     /// Whether a search found what is looked for.

@@ -1,5 +1,5 @@
 //! What came of what a run has visited.
-ghost use Rattle.std.specs.Prelude.{◌≡◌, true};
+ghost use Rattle.std.specs.Prelude.{◌≡◌, ◌||◌, true};
 ghost use Rattle.linegrep_cli.specs.OperandRuns.{no_visit, visited_then};
 
 use std::io;
@@ -52,6 +52,14 @@ impl Visit {
             has_error: true,
             failure,
         }
+    }
+
+    /// Adds whether something couldn't be read before.
+    pub fn add_error(&mut self, has_error: bool)
+        ensures { self.new
+            ≡ record self.old { has_error = self.old.has_error || has_error } }
+    {
+        self.has_error = self.has_error || has_error;
     }
 
     /// Adds what was visited next.

@@ -16,6 +16,7 @@ pub mod NoteLemmas
 pub mod ParentLemmas
 pub mod PartLemmas
 pub mod PieceLemmas
+pub mod RankLemmas
 pub mod ClassSetLemmas
 pub mod ClassTextLemmas
 pub mod SizeLemmas

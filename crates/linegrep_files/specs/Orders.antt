@@ -1,7 +1,7 @@
 -- In which order files are found.
-use Rattle.std.specs.Prelude.{◌≡◌, ℕ, Bool, true, false, ◌&&◌, not, if◌then◌else◌, List}
+use Rattle.std.specs.Prelude.{◌≡◌, ℕ, Bool, true, false, ◌&&◌, ◌||◌, not, if◌then◌else◌, List}
 use Rattle.std.specs.Prelude.{[], ◌∷◌, ◌++◌, length, None, Option, Some, Result, Ok, Err, codes}
-use Rattle.std.specs.Prelude.{string_bytes}
+use Rattle.std.specs.Prelude.{MatchBool, string_bytes}
 use Rattle.std.specs.Borrow.{Bor}
 use Rattle.std.specs.Cmp.Lexicographic.{slice_cmp}
 use Rattle.std.specs.List.Sorted.{IsPermutation, IsSortedBy}
@@ -9,9 +9,11 @@ use Rattle.std.specs.Ordering.{is_lt, nat_cmp, ordering_then}
 use Rattle.std.specs.declared.cmp.Ordering.{Ordering}
 use Rattle.std.specs.declared.cmp.Ordering.TheVariants.{Equal, Greater, Less}
 use Rattle.std.specs.declared.io.Error.{Error}
+use Rattle.std.specs.Path.{path_cmp}
 use Rattle.std.specs.Str.{bytes_eq}
 use Rattle.linegrep_files.specs.declared.order.Dated.{Dated}
 use Rattle.linegrep_files.specs.declared.order.Order.{Order}
+use Rattle.linegrep_files.specs.declared.order.Ranked.{Ranked}
 use Rattle.linegrep_files.specs.declared.order.SortKey.{SortKey}
 use Rattle.linegrep_files.specs.declared.order.SortKey.TheVariants.{Accessed, Created, Modified}
 use Rattle.linegrep_files.specs.declared.order.SortKey.TheVariants.{Path}
@@ -23,6 +25,10 @@ is_time _ = true
 
 abbrev pub is_by_time : Order → Bool
 is_by_time order = is_time order.key
+
+-- all files have to be found before they are sorted: by a time, or by their paths backwards
+abbrev pub is_late : Order → Bool
+is_late order = is_by_time order || order.is_reversed
 
 -- the order of paths
 abbrev pub by_path : Order
@@ -54,6 +60,17 @@ by_time (Some one) None = Less
 by_time None (Some other) = Greater
 by_time None None = Equal
 
+-- how two files are sorted if all files are found first: by their times, or by the components of
+-- their paths
+abbrev pub upward_order : Order → Ranked → Ranked → Ordering
+upward_order order one other = if is_by_time order then by_time one.time other.time
+    else path_cmp (string_bytes one.path) (string_bytes other.path)
+
+-- the same, or backwards
+abbrev pub rank_order : Order → Ranked → Ranked → Ordering
+rank_order order one other = if order.is_reversed then upward_order order other one
+    else upward_order order one other
+
 -- how two files are sorted by their times, or backwards. Of two files with the same time, the one
 -- that was found first comes first
 abbrev pub times_order : Order → Dated → Dated → Ordering
@@ -72,6 +89,12 @@ module _ (times : SortKey → List ℕ → Result (Option ℕ) Error → Type 0)
   pub data IsTimeOf (order : Order) (path : List ℕ) : Option ℕ → Type 0 where
     of_time : (time : Option ℕ) → times order.key path (Ok time) → IsTimeOf order path time
     of_failure : (error : Error) → times order.key path (Err error) → IsTimeOf order path None
+
+  -- what the file at a path is sorted by: the path, and its time, if files are sorted by one
+  pub record IsRanked (order : Order) (path : List ℕ) (ranked : Ranked) : Type 0 where
+    pub path_is : string_bytes ranked.path ≡ path
+    pub time_is : MatchBool (is_by_time order) (IsTimeOf order path ranked.time)
+        (ranked.time ≡ None)
 
   -- files that wait, after others that do, in the order in which they are found: each has the time
   -- that the system says, and how many files were found before it

@@ -39,7 +39,7 @@ pub use folders::{Folders, Found, Kind};
 pub use ignores::Sources;
 pub use limits::{read_size, size_of};
 pub use notes::{Note, Reason};
-pub use order::{Order, SortKey};
+pub use order::{Order, Ranked, SortKey};
 pub use types::type_list;
 pub use walk::{Route, Walk};
 pub use words::{NOT_UTF8, escape, shown};

@@ -1,13 +1,14 @@
 //! In which order files are found.
 ghost use Rattle.std.specs.Prelude.{◌≡◌, false, true, string_bytes, OnErr, OnOk};
-ghost use Rattle.linegrep_files.specs.Orders.{HasOrder, IsTimeOf, LacksOrder};
-ghost use Rattle.linegrep_files.specs.Orders.{by_path, by_time, is_by_time, named_order};
-ghost use Rattle.linegrep_files.specs.Orders.{order_of, times_order};
+ghost use Rattle.linegrep_files.specs.Orders.{HasOrder, IsRanked, IsTimeOf, LacksOrder};
+ghost use Rattle.linegrep_files.specs.Orders.{by_path, by_time, is_by_time, is_late, named_order};
+ghost use Rattle.linegrep_files.specs.Orders.{order_of, rank_order, times_order, upward_order};
 
 use crate::failures::Failure;
 use crate::folders::Folders;
 use std::alloc::Global;
 use std::cmp::Ordering;
+use std::path::Path;
 
 /// What files are sorted by.
 #[derive(Clone, Copy)]
@@ -27,6 +28,16 @@ pub enum SortKey {
 pub struct Order {
     key: SortKey,
     is_reversed: bool,
+}
+
+/// What a file is sorted by, if all files are found before they are sorted.
+#[derive(Drop)]
+pub struct Ranked {
+    /// The path.
+    pub path: String,
+    /// The time, in nanoseconds from the start of 1970 on, if files are sorted by one and the
+    /// system knows it.
+    pub time: Option<u128>,
 }
 
 /// The path of a file, and the time that it is sorted by.
@@ -85,6 +96,50 @@ impl Order {
         ensures { result ≡ is_by_time self.now }
     {
         !matches!(self.key, SortKey::Path)
+    }
+
+    /// Whether all files have to be found before they are sorted: by a time, or by their paths
+    /// backwards.
+    pub fn is_late(&self) -> bool
+        ensures { result ≡ is_late self.now }
+    {
+        self.is_by_time() || self.is_reversed
+    }
+
+    /// What the file at a path is sorted by, as a system has it.
+    pub fn rank<S: Folders>(&self, system: &S, path: String) -> Ranked
+        ensures { IsRanked (S.facts system.now).times self.now (string_bytes path) result }
+    {
+        let time = if self.is_by_time() {
+            self.time(system, path.as_str())
+        } else {
+            None
+        };
+        Ranked { path, time }
+    }
+
+    /// How two files are sorted if all files are found first. Paths are compared by their
+    /// components. A file whose time isn't known comes after the others, or before them if the
+    /// order is reversed.
+    pub fn compare(&self, one: &Ranked, other: &Ranked) -> Ordering
+        ensures { result ≡ rank_order self.now one.now other.now }
+    {
+        if self.is_reversed {
+            self.compare_upward(other, one)
+        } else {
+            self.compare_upward(one, other)
+        }
+    }
+
+    // How two files are sorted by the key, not backwards.
+    fn compare_upward(&self, one: &Ranked, other: &Ranked) -> Ordering
+        ensures { result ≡ upward_order self.now one.now other.now }
+    {
+        if self.is_by_time() {
+            by_time(one.time, other.time)
+        } else {
+            Path::new(one.path.as_str()).cmp(&Path::new(other.path.as_str()))
+        }
     }
 
     /// How two paths of one folder are sorted.

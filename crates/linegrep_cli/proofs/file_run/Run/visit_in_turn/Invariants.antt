@@ -1,7 +1,7 @@
 use Rattle.std.proofs.Common.{◌≡◌, false, take}
 use Rattle.linegrep_files.specs.Choices.{AreAlike}
 use Rattle.linegrep_cli.specs.OperandRuns.{AreVisited, is_over}
-use Rattle.linegrep_cli.proofs.file_run.Run.visit_operands.Given as goal
+use Rattle.linegrep_cli.proofs.file_run.Run.visit_in_turn.Given as goal
 
 abbrev pub invariant-loop-path : goal.invariant-loop-path
 invariant-loop-path g l = record {

@@ -3,7 +3,7 @@ use Rattle.std.proofs.lemmas.List.{drop_all}
 use Rattle.linegrep_files.proofs.AlikeLemmas.{alike-self, alike-then}
 use Rattle.linegrep_cli.specs.OperandRuns.{is_over, no_operand}
 use Rattle.linegrep_cli.proofs.OperandLemmas.{first-visited, next-over, next-visited, not-over}
-use Rattle.linegrep_cli.proofs.file_run.Run.visit_operands.Goals as goal
+use Rattle.linegrep_cli.proofs.file_run.Run.visit_in_turn.Goals as goal
 
 pub loop-path-init : goal.loop-path-init
 loop-path-init g c = record {
