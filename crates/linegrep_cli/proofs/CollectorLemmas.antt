@@ -1,7 +1,7 @@
 -- What a run has found before it searches, if nothing failed.
 use Rattle.std.proofs.Common.{◌≡◌, ◌∙◌, ◌⊎◌, ℕ, Bool, true, false, List, [], ◌∷◌, ◌++◌, ap, append_assoc, inl, inr, refl}
 use Rattle.std.proofs.Common.{subst, sym, true≢false}
-use Rattle.std.specs.Prelude.{◌&&◌, MatchBool, None, Option, Some, Result, Ok, Err, codes, is_none, not, string_bytes}
+use Rattle.std.specs.Prelude.{◌&&◌, MatchBool, None, Option, Some, Result, codes, is_none, not}
 use Rattle.std.specs.Borrow.{Bor}
 use Rattle.std.specs.declared.io.Error.{Error}
 use Rattle.std.proofs.lemmas.List.{append-nil}
@@ -15,7 +15,7 @@ use Rattle.linegrep_cli.specs.OperandRuns.{IsNamedVisited, IsOperandVisited, IsR
 use Rattle.linegrep_cli.specs.OperandRuns.{is_escaped, is_input, is_over, last_text, next_entry, next_operand}
 use Rattle.linegrep_cli.specs.OperandRuns.{next_text, no_entry}
 use Rattle.linegrep_cli.specs.OperandRuns.{no_operand, no_text, of_entered, of_file_at, of_folder, of_listed}
-use Rattle.linegrep_cli.specs.OperandRuns.{of_listing, of_missing, of_path, of_unfound, of_unread, visited_then}
+use Rattle.linegrep_cli.specs.OperandRuns.{of_listing, of_missing, of_path, of_unfound, of_unread}
 use Rattle.linegrep_cli.specs.RunInputs.{AreAllFound, AreFilesFound, AreFoundAt, AreFoundFor, AreFoundIn, file_found}
 use Rattle.linegrep_cli.specs.RunInputs.{folder_found, next_found, no_file_found, none_found, of_found_file}
 use Rattle.linegrep_cli.specs.RunInputs.{of_found_folder, of_found_input}

@@ -7,7 +7,7 @@ use Rattle.linegrep_files.specs.Choices.{AreAlike, AreTakenUp}
 use Rattle.linegrep_files.specs.Folders.{name_of}
 use Rattle.linegrep_files.specs.FolderFacts.{FolderFacts}
 use Rattle.linegrep_files.specs.Trees.{AreAllOf, AreFirstOf, IsPassed, IsWalked, are_none, no_visit}
-use Rattle.linegrep_files.specs.Walks.{IsBegun, IsPopped, of_dated, of_end, of_memory, of_pending}
+use Rattle.linegrep_files.specs.Walks.{IsBegun, IsPopped, of_end, of_memory, of_pending}
 use Rattle.linegrep_files.specs.declared.choices.Choices.{Choices}
 use Rattle.linegrep_files.specs.declared.entry.Entry.{Entry}
 use Rattle.linegrep_files.specs.declared.walk.Route.{Route}
@@ -35,8 +35,7 @@ module _ {S : Type 0} (facts : S → FolderFacts) (system : Bor S) (route : Rout
 
   -- memory was left if an entry was popped
   left : (old new : Walk S) (entry : Entry) → IsPopped old (Some entry) new → old.is_out_of_memory ≡ false
-  left old new entry (of_pending _ memory is dated on goes_on) = memory
-  left old new entry (of_dated _ sorted memory empty are files none on goes_on) = memory
+  left old new entry (of_pending _ memory is on goes_on) = memory
 
   pub along-next : (visited : List Entry) (walk popped new : Walk S) (inside within : Choices) (entry : Entry)
       → IsAlong visited walk inside → IsPopped walk (Some entry) popped
@@ -56,16 +55,16 @@ module _ {S : Type 0} (facts : S → FolderFacts) (system : Bor S) (route : Rout
       → IsAlong visited walk inside → IsPopped walk None end → end.is_out_of_memory ≡ false
       → AreTakenUp (facts system.now) (name_of folder) first choices
       → AreAllOf (facts system.now) route first folder visited
-  along-end visited walk end inside first along (of_end memory pending dated still) left taken =
+  along-end visited walk end inside first along (of_end memory pending still) left taken =
       walks-end facts system route folder begun walk end first choices inside visited taken
-      (along.starts memory) (along.walked memory) (of_end memory pending dated still) left
+      (along.starts memory) (along.walked memory) (of_end memory pending still) left
   along-end visited walk end inside first along (of_memory still) left taken =
       absurd (true≢false (sym still ∙ left))
 
   pub along-alike : (visited : List Entry) (walk end : Walk S) (inside first : Choices)
       → IsAlong visited walk inside → IsPopped walk None end → end.is_out_of_memory ≡ false
       → AreTakenUp (facts system.now) (name_of folder) first choices → AreAlike first inside
-  along-alike visited walk end inside first along (of_end memory pending dated still) left taken =
+  along-alike visited walk end inside first along (of_end memory pending still) left taken =
       walked-alike facts (facts system.now) (name_of folder) begun first choices visited walk inside taken
       (along.walked memory)
   along-alike visited walk end inside first along (of_memory still) left taken =

@@ -1,6 +1,6 @@
 -- What a run has searched that finds all of it first, if nothing failed.
 use Rattle.std.proofs.Common.{◌<◌, length}
-use Rattle.std.proofs.Common.{◌≡◌, ◌∙◌, ◌⊎◌, ℕ, Bool, true, false, List, [], ◌∷◌, ◌++◌, ap, inl, inr, refl, subst, sym}
+use Rattle.std.proofs.Common.{◌≡◌, ◌∙◌, ◌⊎◌, ℕ, Bool, true, false, List, [], ◌++◌, ap, inl, inr, refl, subst, sym}
 use Rattle.std.proofs.Common.{true≢false}
 use Rattle.std.specs.Prelude.{◌&&◌, ◌||◌, MatchBool, MatchOption, None, Option, Some, Result, is_none, is_some, not}
 use Rattle.std.specs.Borrow.{Bor}
@@ -12,9 +12,9 @@ use Rattle.linegrep_cli.proofs.VisitTextLemmas.{goes-on, has-searched, none-of, 
 use Rattle.linegrep_cli.specs.EngineCalls.{EngineCall}
 use Rattle.linegrep_cli.specs.OperandRuns.{AreAllVisited, AreSortedVisited, AreVisitedInOrder, AreVisitedLate}
 use Rattle.linegrep_cli.specs.OperandRuns.{IsFoundVisited, no_visit}
-use Rattle.linegrep_cli.specs.OperandRuns.{IsNoneSaid, is_bare, is_over, of_found_all, of_memory, of_sorted}
+use Rattle.linegrep_cli.specs.OperandRuns.{is_bare, is_over, of_found_all, of_memory, of_sorted}
 use Rattle.linegrep_cli.specs.OperandRuns.{of_unfound_all}
-use Rattle.linegrep_cli.specs.RunInputs.{AreAllFound, AreOfWaiting, AreSearched, AreSearchedInTurn, AreSearchedLate}
+use Rattle.linegrep_cli.specs.RunInputs.{AreOfWaiting, AreSearched, AreSearchedInTurn, AreSearchedLate}
 use Rattle.linegrep_cli.specs.SearchTexts.{Input}
 use Rattle.linegrep_cli.specs.WaitingFiles.{AreInOrder, AreRanked}
 use Rattle.linegrep_cli.specs.declared.late.Waiting.{Waiting}
@@ -36,9 +36,9 @@ module _ {E F R : Type 0} (folders : FolderFacts) (finds : List ℕ → Result B
   -- what was searched of what was found, in order
   pub record IsSorted (first : R) (found : List Waiting) (match searched : Bool) (new : E) : Type 0 where
     pub ranked : List Waiting
-    pub are_ranked : AreRanked folders.times scope.route.order found ranked
+    pub are_ranked : AreRanked folders.times scope.order found ranked
     pub sorted : List Waiting
-    pub in_order : AreInOrder scope.route.order ranked sorted
+    pub in_order : AreInOrder scope.order ranked sorted
     pub inputs : List Input
     pub last : R
     pub are : AreOfWaiting folders finds opens identifies scope IsFile IsReader first sorted inputs last
@@ -167,7 +167,7 @@ module _ {E F R : Type 0} (folders : FolderFacts) (finds : List ℕ → Result B
       → (inputs : List Input) × (last : R)
       × AreSearched folders finds opens identifies scope IsFile IsReader choices paths first inputs last
       × At false inputs total.has_match last new
-  ordered-visited first choices paths old total new visited good at = by (is_late scope.route.order) visited
+  ordered-visited first choices paths old total new visited good at = by (is_late scope.order) visited
     where
       by : (late : Bool)
           → MatchBool late (AreVisitedLate folders finds opens identifies step has_failed scope choices paths old total

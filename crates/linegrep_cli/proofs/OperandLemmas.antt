@@ -18,7 +18,7 @@ use Rattle.linegrep_cli.specs.declared.visit.Visit.{Visit}
 use Rattle.linegrep_files.specs.Choices.{AreAlike}
 use Rattle.linegrep_files.specs.FolderFacts.{FolderFacts}
 use Rattle.linegrep_files.specs.Folders.{name_of}
-use Rattle.linegrep_files.specs.Trees.{AreAllOf, AreFirstOf, are_first, are_none, are_of_late}
+use Rattle.linegrep_files.specs.Trees.{AreAllOf, AreFirstOf, are_first, are_none}
 use Rattle.linegrep_files.specs.declared.choices.Choices.{Choices}
 use Rattle.linegrep_files.specs.declared.entry.Entry.{Entry}
 use Rattle.linegrep_files.specs.declared.file_id.FileId.{FileId}
@@ -51,8 +51,6 @@ first-of : (folders : FolderFacts) (route : Route) (old choices : Choices) (fold
 first-of folders route old choices folder _ alike are_none = are_none
 first-of folders route old choices folder visited alike (are_first begun path root are is root_is first) =
     are_first begun path root (taken-by folders (name_of folder) old choices begun alike are) is root_is first
-first-of folders route old choices folder _ alike (are_of_late begun path root are is root_is former late) =
-    are_of_late begun path root (taken-by folders (name_of folder) old choices begun alike are) is root_is former late
 
 all-of : (folders : FolderFacts) (route : Route) (old choices : Choices) (folder : List ℕ)
     (visited : List Entry) → AreAlike old choices → AreAllOf folders route choices folder visited
@@ -65,12 +63,7 @@ all-of folders route old choices folder visited alike are = record {
   root = are.root;
   is_root = are.is_root;
   after = are.after;
-  former = are.former;
-  late = are.late;
-  waiting = are.waiting;
   are_visited = are.are_visited;
-  are_late = are.are_late;
-  are = are.are;
 }
 
 module _ {E F : Type 0} (folders : FolderFacts) (finds : List ℕ → Result Bool Error → Type 0)

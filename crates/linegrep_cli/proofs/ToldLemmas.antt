@@ -1,5 +1,5 @@
 -- Texts on standard error, one after another, and the entry of a folder, of which they are.
-use Rattle.std.proofs.Common.{◌≡◌, ℕ, ◌+◌, Bool, true, false, ◌∙◌, ap, arith, subst, sym}
+use Rattle.std.proofs.Common.{◌≡◌, ℕ, ◌+◌, true, false, ◌∙◌, ap, arith, subst, sym}
 use Rattle.std.specs.Prelude.{None, Option, Some, String, if◌then◌else◌, is_some}
 use Rattle.std.specs.Global.{Global}
 use Rattle.std.specs.declared.io.Error.{Error}

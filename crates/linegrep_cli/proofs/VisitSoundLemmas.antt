@@ -335,6 +335,6 @@ module _ {E F : Type 0} (folders : FolderFacts) (finds : List ℕ → Result Boo
   pub ordered-ended : (choices : Choices) (paths : List (Bor (List ℕ))) (old : E) (total : Visit) (new : E)
       → AreVisitedInOrder folders finds opens identifies step has_failed scope choices paths old total new
       → Sound old → HasEnded total.failure new
-  ordered-ended choices paths old total new visited sound = either (is_late scope.route.order)
+  ordered-ended choices paths old total new visited sound = either (is_late scope.order)
       (λ late visited. late-ended choices paths old total new visited sound)
       (λ late visited. all-ended choices paths old total new visited sound) visited

@@ -28,7 +28,7 @@ use Rattle.grep_printer.specs.declared.printed_search.Searched.{Searched}
 use Rattle.linegrep_files.specs.Choices.{SaysTheSame, notes_of, warnings_of}
 use Rattle.linegrep_files.specs.FileIds.{is_same_file}
 use Rattle.linegrep_files.specs.FolderFacts.{FolderFacts}
-use Rattle.linegrep_files.specs.Orders.{by_path, is_late}
+use Rattle.linegrep_files.specs.Orders.{is_late}
 use Rattle.linegrep_files.specs.Trees.{AreAllOf, AreFirstOf}
 use Rattle.linegrep_files.specs.Walks.{IsNoted}
 use Rattle.linegrep_files.specs.declared.choices.Choices.{Choices}
@@ -90,14 +90,13 @@ is_over scope total =
     is_some total.failure || (ends_with_match scope.quiet && total.has_match)
 
 -- to find what a run searches, before it searches anything: each file is listed, and standard input
--- isn't left out yet. In a folder files are found in the order of paths
+-- isn't left out yet
 abbrev pub finding_scope : Scope → Scope
 finding_scope scope = record scope {
   lists_files = true;
   lists_input = false;
   leaves_out_input = false;
   quiet = None;
-  route = record { follows_links = scope.route.follows_links; order = by_path };
 }
 
 -- there is no operand
@@ -419,8 +418,8 @@ module _ {E F : Type 0} (folders : FolderFacts) (opens : List ℕ → Result F E
   -- out
   pub data AreSortedVisited (found : List Waiting) (old : E) : Visit → E → Type 0 where
     of_sorted : {visit : Visit} {new : E} (ranked sorted : List Waiting)
-        → AreRanked folders.times scope.route.order found ranked
-        → AreInOrder scope.route.order ranked sorted
+        → AreRanked folders.times scope.order found ranked
+        → AreInOrder scope.order ranked sorted
         → AreFirstVisited opens identifies step has_failed scope old sorted visit new
         → AreSortedVisited found old visit new
     of_memory : (error : Error) → error_kind error ≡ OutOfMemory
@@ -466,7 +465,7 @@ module _ {E F : Type 0} (folders : FolderFacts) (finds : List ℕ → Result Boo
   -- all that is visited, in the order that is asked for: if all has to be found first, the files of
   -- all operands together, and otherwise what each operand names, in turn
   abbrev pub AreVisitedInOrder : List (Bor (List ℕ)) → E → Visit → E → Type 0
-  AreVisitedInOrder paths old total new = MatchBool (is_late scope.route.order)
+  AreVisitedInOrder paths old total new = MatchBool (is_late scope.order)
       (AreVisitedLate paths old total new)
       (AreAllVisited folders finds opens identifies step has_failed scope choices paths old total
       new)

@@ -9,7 +9,7 @@ use Rattle.std.specs.List.{concat}
 use Rattle.std.specs.declared.io.Error.{Error}
 use Rattle.grep_searcher.specs.Searches.{Reads}
 use Rattle.grep_searcher.specs.Source.{ReadResult}
-use Rattle.linegrep_cli.specs.OperandRuns.{IsLeftOut, finding_scope, is_bare, is_escaped}
+use Rattle.linegrep_cli.specs.OperandRuns.{IsLeftOut, is_bare, is_escaped}
 use Rattle.linegrep_cli.specs.OperandRuns.{is_input, path_of}
 use Rattle.linegrep_cli.specs.PathSeparators.{IsShown}
 use Rattle.linegrep_cli.specs.SearchTexts.{Input}
@@ -142,7 +142,7 @@ module _ {F R : Type 0} (folders : FolderFacts) (finds : List ℕ → Result Boo
   -- order of paths
   pub record AreFoundIn (choices : Choices) (folder : List ℕ) (found : List Waiting) : Type 0 where
     pub entries : List Entry
-    pub all : AreAllOf folders (finding_scope scope).route choices folder entries
+    pub all : AreAllOf folders scope.route choices folder entries
     pub files : AreFilesFound entries found
 
   -- what is found for an operand
@@ -192,14 +192,14 @@ module _ {F R : Type 0} (folders : FolderFacts) (finds : List ℕ → Result Boo
     pub found : List Waiting
     pub all : AreAllFound choices paths found
     pub ranked : List Waiting
-    pub are_ranked : AreRanked folders.times scope.route.order found ranked
+    pub are_ranked : AreRanked folders.times scope.order found ranked
     pub sorted : List Waiting
-    pub in_order : AreInOrder scope.route.order ranked sorted
+    pub in_order : AreInOrder scope.order ranked sorted
     pub searched : AreOfWaiting reader sorted inputs reader'
     pub some : is_bare paths ≡ true → scope.searches_input ≡ false → 0 < length inputs
 
   -- what a run searches, by its operands and its order
   abbrev pub AreSearched : Choices → List (Bor (List ℕ)) → R → List Input → R → Type 0
-  AreSearched choices paths reader inputs reader' = MatchBool (is_late scope.route.order)
+  AreSearched choices paths reader inputs reader' = MatchBool (is_late scope.order)
       (AreSearchedLate choices paths reader inputs reader')
       (AreSearchedInTurn choices paths reader inputs reader')

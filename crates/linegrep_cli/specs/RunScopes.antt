@@ -54,7 +54,8 @@ abbrev pub scope_of : Options → Bool → Scope
 scope_of options several = record {
   searches_input = searches_input options;
   searches_binary = searches_binary options;
-  route = record { follows_links = has options Follow; order = order_for options };
+  route = record { follows_links = has options Follow };
+  order = order_for options;
   lists_files = has options Files;
   lists_input = has options Files;
   shows_paths = shows_paths options (not (searches_input options) && several);

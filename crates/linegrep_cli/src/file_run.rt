@@ -109,7 +109,7 @@ impl<'r, S: System> Run<'r, S> {
             (S.opens self.now.system.now) (S.identifies self.now.system.now) E.step E.has_failed
             self.now.scope choices.old paths.now engine.old result engine.new }
     {
-        if self.scope.route.order.is_late() {
+        if self.scope.order.is_late() {
             self.visit_late(engine, choices, paths)
         } else {
             self.visit_in_turn(engine, choices, paths)
@@ -200,7 +200,7 @@ impl<'r, S: System> Run<'r, S> {
             (S.identifies self.now.system.now) E.step E.has_failed self.now.scope found.items
             engine.old result engine.new }
     {
-        match in_order(self.rt.alloc(), self.system, self.scope.route.order, found) {
+        match in_order(self.rt.alloc(), self.system, self.scope.order, found) {
             Ok(sorted) => self.visit_all_waiting(engine, sorted.as_slice()),
             Err(_) => Visit::failed(Some(io::Error::from(io::ErrorKind::OutOfMemory))),
         }

@@ -23,6 +23,8 @@ pub struct Scope {
     pub searches_binary: bool,
     /// How folders are walked through.
     pub route: Route,
+    /// In which order files are searched.
+    pub order: Order,
     /// Whether the paths of files are written, and nothing is searched.
     pub lists_files: bool,
     /// Whether the name of standard input is written, and it isn't searched.
@@ -70,8 +72,8 @@ impl Scope {
             searches_binary: options.searches_binary(),
             route: Route {
                 follows_links: options.has(OptionId::Follow),
-                order: options.order(),
             },
+            order: options.order(),
             lists_files: options.has(OptionId::Files),
             lists_input: options.has(OptionId::Files),
             shows_paths: options.shows_paths(
@@ -95,7 +97,6 @@ impl Scope {
         scope.lists_input = false;
         scope.leaves_out_input = false;
         scope.quiet = None;
-        scope.route.order = Order::by_path();
         scope
     }
 

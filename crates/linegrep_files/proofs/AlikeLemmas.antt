@@ -116,10 +116,10 @@ module _ (folders : FolderFacts) (folder below names : List ℕ) where
 module _ {S : Type 0} (facts : S → FolderFacts) where
   entered-along : (old : Walk S) (choices : Choices) (folder : List ℕ) (new : Walk S) (inside : Choices)
       → IsKnown choices.ignores → IsEntered facts old choices folder new inside → AreAlong choices inside
-  entered-along old choices folder new inside known (of_deep deep pending dated same) =
+  entered-along old choices folder new inside known (of_deep deep pending same) =
       along-same choices inside known same
   entered-along old choices folder new inside known
-      (of_unread path error flat listed named pending dated same) = along-same choices inside known same
+      (of_unread path error flat listed named pending same) = along-same choices inside known same
   entered-along old choices folder new inside known (of_names names flat listed added) =
       let within = within-along _ _ _ _ choices added.within known added.are_within in
       along-then choices added.within inside within.alike
@@ -129,11 +129,11 @@ module _ {S : Type 0} (facts : S → FolderFacts) where
   pub entered-same : (old : Walk S) (choices : Choices) (folder : List ℕ) (new : Walk S) (inside now : Choices)
       → IsEntered facts old choices folder new inside → SaysTheSame inside now
       → IsEntered facts old choices folder new now
-  entered-same old choices folder new inside now (of_deep deep pending dated same) later =
-      of_deep deep pending dated (same-then choices inside now same later)
+  entered-same old choices folder new inside now (of_deep deep pending same) later =
+      of_deep deep pending (same-then choices inside now same later)
   entered-same old choices folder new inside now
-      (of_unread path error flat listed named pending dated same) later =
-      of_unread path error flat listed named pending dated (same-then choices inside now same later)
+      (of_unread path error flat listed named pending same) later =
+      of_unread path error flat listed named pending (same-then choices inside now same later)
   entered-same old choices folder new inside now (of_names names flat listed added) later =
       of_names names flat listed (record {
         within = added.within;

@@ -8,7 +8,6 @@ pub mod GitSettingLemmas
 pub mod GlobExamples
 pub mod GlobRuleLemmas
 pub mod GlobTextLemmas
-pub mod DatedLemmas
 pub mod FoundLemmas
 pub mod IgnoreFileLemmas
 pub mod MalformedLemmas

@@ -1,17 +1,14 @@
 -- In which order files are found.
-use Rattle.std.specs.Prelude.{◌≡◌, ℕ, Bool, true, false, ◌&&◌, ◌||◌, not, if◌then◌else◌, List}
-use Rattle.std.specs.Prelude.{[], ◌∷◌, ◌++◌, length, None, Option, Some, Result, Ok, Err, codes}
+use Rattle.std.specs.Prelude.{◌≡◌, ℕ, Bool, true, false, ◌||◌, if◌then◌else◌, List}
+use Rattle.std.specs.Prelude.{None, Option, Some, Result, Ok, Err, codes}
 use Rattle.std.specs.Prelude.{MatchBool, string_bytes}
 use Rattle.std.specs.Borrow.{Bor}
-use Rattle.std.specs.Cmp.Lexicographic.{slice_cmp}
-use Rattle.std.specs.List.Sorted.{IsPermutation, IsSortedBy}
-use Rattle.std.specs.Ordering.{is_lt, nat_cmp, ordering_then}
+use Rattle.std.specs.Ordering.{nat_cmp}
 use Rattle.std.specs.declared.cmp.Ordering.{Ordering}
 use Rattle.std.specs.declared.cmp.Ordering.TheVariants.{Equal, Greater, Less}
 use Rattle.std.specs.declared.io.Error.{Error}
 use Rattle.std.specs.Path.{path_cmp}
 use Rattle.std.specs.Str.{bytes_eq}
-use Rattle.linegrep_files.specs.declared.order.Dated.{Dated}
 use Rattle.linegrep_files.specs.declared.order.Order.{Order}
 use Rattle.linegrep_files.specs.declared.order.Ranked.{Ranked}
 use Rattle.linegrep_files.specs.declared.order.SortKey.{SortKey}
@@ -48,11 +45,6 @@ named_order (Some name) is_reversed =
     else if bytes_eq name.now (codes "path") then record { key = Path; is_reversed = is_reversed }
     else by_path
 
--- how two paths are sorted: by their bytes, or backwards if the order of paths is reversed
-abbrev pub order_of : Order → List ℕ → List ℕ → Ordering
-order_of order one other = if order.is_reversed && not (is_by_time order)
-    then slice_cmp nat_cmp other one else slice_cmp nat_cmp one other
-
 -- how two times are sorted. A time that isn't known comes after others
 abbrev pub by_time : Option ℕ → Option ℕ → Ordering
 by_time (Some one) (Some other) = nat_cmp one other
@@ -71,18 +63,6 @@ abbrev pub rank_order : Order → Ranked → Ranked → Ordering
 rank_order order one other = if order.is_reversed then upward_order order other one
     else upward_order order one other
 
--- how two files are sorted by their times, or backwards. Of two files with the same time, the one
--- that was found first comes first
-abbrev pub times_order : Order → Dated → Dated → Ordering
-times_order order one other = ordering_then
-    (if order.is_reversed then by_time other.time one.time else by_time one.time other.time)
-    (nat_cmp one.place other.place)
-
--- some files are sorted by their times, the first one last
-pub record AreSorted (order : Order) (dated sorted : List Dated) : Type 0 where
-  pub same : IsPermutation dated sorted
-  pub in_order : IsSortedBy (λ one other. is_lt (times_order order other one)) sorted
-
 -- By what a system may say of the times of files.
 module _ (times : SortKey → List ℕ → Result (Option ℕ) Error → Type 0) where
   -- the time of the file at a path: what the system says, or none if it fails
@@ -95,16 +75,6 @@ module _ (times : SortKey → List ℕ → Result (Option ℕ) Error → Type 0)
     pub path_is : string_bytes ranked.path ≡ path
     pub time_is : MatchBool (is_by_time order) (IsTimeOf order path ranked.time)
         (ranked.time ≡ None)
-
-  -- files that wait, after others that do, in the order in which they are found: each has the time
-  -- that the system says, and how many files were found before it
-  pub data AreDated (order : Order) (before : List Dated) : List (List ℕ) → List Dated
-      → Type 0 where
-    none_dated : AreDated order before [] before
-    next_dated : {paths : List (List ℕ)} {dated : List Dated} (file : Dated)
-        → AreDated order before paths dated → file.place ≡ length dated
-        → IsTimeOf order (string_bytes file.path) file.time
-        → AreDated order before (paths ++ string_bytes file.path ∷ []) (dated ++ file ∷ [])
 
   -- the system has an order: it knows the current folder's time if files are sorted by times
   abbrev pub HasOrder : Order → Type 0

@@ -1,6 +1,6 @@
 -- What a walk visits: the files of a folder and of the folders in it, in the order of names.
 use Rattle.std.specs.Prelude.{◌≡◌, ℕ, true, false, ◌++◌, ◌∷◌, [], List, None, Some, reverse}
-use Rattle.std.specs.Prelude.{Ok, Err, String, Vec, filter, map, not, string_bytes}
+use Rattle.std.specs.Prelude.{Ok, Err, String, Vec, string_bytes}
 use Rattle.std.specs.Borrow.{Bor}
 use Rattle.std.specs.Global.{Global}
 use Rattle.std.specs.List.Sorted.{IsPermutation, IsSortedBy}
@@ -8,16 +8,13 @@ use Rattle.std.specs.declared.io.Error.{Error}
 use Rattle.linegrep_files.specs.Choices.{AreTakenUp, IsWithin, SaysTheSame}
 use Rattle.linegrep_files.specs.FolderFacts.{FolderFacts}
 use Rattle.linegrep_files.specs.Folders.{AreFound, below_of, depth_of, is_folder, listed_path}
-use Rattle.linegrep_files.specs.Folders.{name_of, names_of, path_of}
+use Rattle.linegrep_files.specs.Folders.{name_of, names_of}
 use Rattle.linegrep_files.specs.Limits.{allows_depth}
-use Rattle.linegrep_files.specs.Orders.{AreDated, AreSorted}
 use Rattle.linegrep_files.specs.Paths.{IsRoot}
-use Rattle.linegrep_files.specs.Walks.{GoesOn, IsBegun, IsEntered, IsPopped, comes_before, waits}
+use Rattle.linegrep_files.specs.Walks.{GoesOn, IsBegun, IsEntered, IsPopped, comes_before}
 use Rattle.linegrep_files.specs.declared.choices.Choices.{Choices}
 use Rattle.linegrep_files.specs.declared.entry.Entry.{Entry}
-use Rattle.linegrep_files.specs.declared.entry.Entry.TheVariants.{File, Folder, Unread}
-use Rattle.linegrep_files.specs.declared.order.Dated.{Dated}
-use Rattle.linegrep_files.specs.declared.order.Order.{Order}
+use Rattle.linegrep_files.specs.declared.entry.Entry.TheVariants.{Folder, Unread}
 use Rattle.linegrep_files.specs.declared.walk.Route.{Route}
 use Rattle.linegrep_files.specs.declared.walk.Walk.{Walk}
 
@@ -25,17 +22,15 @@ use Rattle.linegrep_files.specs.declared.walk.Walk.{Walk}
 -- walk's own folder by the name `top`, and the path of that has `root` bytes, without the slashes
 -- at its end.
 module _ (folders : FolderFacts) (route : Route) (top : List ℕ) (root : ℕ) where
-  -- what is in a folder: what is found for its names, in order, by what is chosen there; and apart
-  -- from these the paths of the files that wait. If the folder is too deep, that is nothing, and if
-  -- it can't be read, that is found
-  pub data IsFolderOf (choices : Choices) (folder : List ℕ) :
-      List Entry → List (List ℕ) → Choices → Type 0 where
+  -- what is in a folder: what is found for its names, in order, by what is chosen there. If the
+  -- folder is too deep, that is nothing, and if it can't be read, that is found
+  pub data IsFolderOf (choices : Choices) (folder : List ℕ) : List Entry → Choices → Type 0 where
     is_deep : {inside : Choices} → allows_depth choices.limits (depth_of root folder) ≡ false
-        → SaysTheSame choices inside → IsFolderOf choices folder [] [] inside
+        → SaysTheSame choices inside → IsFolderOf choices folder [] inside
     is_unread : {inside : Choices} (path : String Global) (error : Error)
         → allows_depth choices.limits (depth_of root folder) ≡ true
         → folders.lists (listed_path folder) (Err error) → string_bytes path ≡ name_of folder
-        → SaysTheSame choices inside → IsFolderOf choices folder (Unread path error ∷ []) [] inside
+        → SaysTheSame choices inside → IsFolderOf choices folder (Unread path error ∷ []) inside
     is_names : {inside : Choices} (names : Vec ℕ Global) (within : Choices)
         (found next : List Entry)
         → allows_depth choices.limits (depth_of root folder) ≡ true
@@ -43,26 +38,20 @@ module _ (folders : FolderFacts) (route : Route) (top : List ℕ) (root : ℕ) w
         → IsWithin folders folder (below_of root folder) names.items choices within
         → AreFound folders.looks route.follows_links top root within.limits within folder
         (names_of names.items) found
-        → IsPermutation (filter (λ entry. not (waits route.order entry)) found) next
-        → IsSortedBy (λ one other. comes_before route.order other one) next
-        → SaysTheSame within inside
-        → IsFolderOf choices folder (reverse next) (map path_of (filter (waits route.order) found))
-        inside
+        → IsPermutation found next → IsSortedBy (λ one other. comes_before other one) next
+        → SaysTheSame within inside → IsFolderOf choices folder (reverse next) inside
 
   -- what is visited of some entries, in their order: each entry, and right after a folder what is
-  -- visited in it. Apart from these, the paths of the files that wait
-  pub data AreVisited :
-      Choices → List Entry → List Entry → List (List ℕ) → Choices → Type 0 where
-    no_entry : (choices : Choices) → AreVisited choices [] [] [] choices
-    next_entry : {choices after : Choices} {later visited : List Entry} {waiting : List (List ℕ)}
-        (entry : Entry) → is_folder entry ≡ false → AreVisited choices later visited waiting after
-        → AreVisited choices (entry ∷ later) (entry ∷ visited) waiting after
+  -- visited in it
+  pub data AreVisited : Choices → List Entry → List Entry → Choices → Type 0 where
+    no_entry : (choices : Choices) → AreVisited choices [] [] choices
+    next_entry : {choices after : Choices} {later visited : List Entry} (entry : Entry)
+        → is_folder entry ≡ false → AreVisited choices later visited after
+        → AreVisited choices (entry ∷ later) (entry ∷ visited) after
     next_folder : {choices inside mid after : Choices} {later inner below visited : List Entry}
-        {own under waiting : List (List ℕ)} (path : String Global)
-        → IsFolderOf choices (string_bytes path) inner own inside
-        → AreVisited inside inner below under mid → AreVisited mid later visited waiting after
-        → AreVisited choices (Folder path ∷ later) (Folder path ∷ (below ++ visited))
-        (own ++ (under ++ waiting)) after
+        (path : String Global) → IsFolderOf choices (string_bytes path) inner inside
+        → AreVisited inside inner below mid → AreVisited mid later visited after
+        → AreVisited choices (Folder path ∷ later) (Folder path ∷ (below ++ visited)) after
 
   -- the beginning of what is visited of some entries: up to one of them, or to something in one of
   -- them
@@ -73,30 +62,18 @@ module _ (folders : FolderFacts) (route : Route) (top : List ℕ) (root : ℕ) w
         → AreFirst choices (entry ∷ later) (entry ∷ visited)
     first_folder : (choices : Choices) (later : List Entry) (path : String Global)
         → AreFirst choices (Folder path ∷ later) (Folder path ∷ [])
-    in_folder : {choices inside : Choices} {later inner below : List Entry} {own : List (List ℕ)}
-        (path : String Global) → IsFolderOf choices (string_bytes path) inner own inside
-        → AreFirst inside inner below
+    in_folder : {choices inside : Choices} {later inner below : List Entry} (path : String Global)
+        → IsFolderOf choices (string_bytes path) inner inside → AreFirst inside inner below
         → AreFirst choices (Folder path ∷ later) (Folder path ∷ below)
     after_folder : {choices inside mid : Choices} {later inner below visited : List Entry}
-        {own under : List (List ℕ)} (path : String Global)
-        → IsFolderOf choices (string_bytes path) inner own inside
-        → AreVisited inside inner below under mid → AreFirst mid later visited
+        (path : String Global) → IsFolderOf choices (string_bytes path) inner inside
+        → AreVisited inside inner below mid → AreFirst mid later visited
         → AreFirst choices (Folder path ∷ later) (Folder path ∷ (below ++ visited))
-
--- the files that wait are visited once nothing else is left, each once, in the order of their
--- times, but for some that are left over. The list `sorted` has the first one last
-pub record AreLater (folders : FolderFacts) (order : Order) (waiting : List (List ℕ))
-    (late left : List Entry) : Type 0 where
-  pub dated : List Dated
-  pub sorted : List Dated
-  pub are_dated : AreDated folders.times order [] waiting dated
-  pub are_sorted : AreSorted order dated sorted
-  pub are : map (λ file. File file.path) sorted ≡ left ++ reverse late
 
 -- By what a system may say of folders and files.
 module _ (folders : FolderFacts) (route : Route) (choices : Choices) (folder : List ℕ) where
   -- all that is visited of a folder, by choices for it: the folder itself, and what is in it, in
-  -- order. Files that are sorted by a time come last
+  -- order
   pub record AreAllOf (visited : List Entry) : Type 0 where
     pub begun : Choices
     pub are_begun : AreTakenUp folders (name_of folder) choices begun
@@ -105,13 +82,8 @@ module _ (folders : FolderFacts) (route : Route) (choices : Choices) (folder : L
     pub root : ℕ
     pub is_root : IsRoot folder root
     pub after : Choices
-    pub former : List Entry
-    pub late : List Entry
-    pub waiting : List (List ℕ)
-    pub are_visited : AreVisited folders route (name_of folder) root begun (Folder path ∷ []) former
-        waiting after
-    pub are_late : AreLater folders route.order waiting late []
-    pub are : visited ≡ former ++ late
+    pub are_visited : AreVisited folders route (name_of folder) root begun (Folder path ∷ [])
+        visited after
 
   -- the beginning of what is visited of a folder
   pub data AreFirstOf : List Entry → Type 0 where
@@ -121,13 +93,6 @@ module _ (folders : FolderFacts) (route : Route) (choices : Choices) (folder : L
         → IsRoot folder root
         → AreFirst folders route (name_of folder) root begun (Folder path ∷ []) visited
         → AreFirstOf visited
-    are_of_late : {former late left : List Entry} {waiting : List (List ℕ)} {after : Choices}
-        (begun : Choices) (path : String Global) (root : ℕ)
-        → AreTakenUp folders (name_of folder) choices begun → string_bytes path ≡ folder
-        → IsRoot folder root
-        → AreVisited folders route (name_of folder) root begun
-        (Folder path ∷ []) former waiting after
-        → AreLater folders route.order waiting late left → AreFirstOf (former ++ late)
 
 -- By what a system may say of folders and files.
 module _ {S : Type 0} (facts : S → FolderFacts) where

@@ -1,10 +1,11 @@
 -- What a walk through folders finds, in which order.
-use Rattle.std.specs.Prelude.{◌≡◌, ℕ, Bool, true, false, not, ◌++◌, ◌∷◌, [], List, map, filter}
-use Rattle.std.specs.Prelude.{None, Option, Result, Some, Ok, Err, String, Vec, string_bytes}
+use Rattle.std.specs.Prelude.{◌≡◌, ℕ, Bool, true, false, ◌++◌, ◌∷◌, [], List}
+use Rattle.std.specs.Prelude.{None, Option, Some, Ok, Err, String, Vec, string_bytes}
 use Rattle.std.specs.Borrow.{Bor}
+use Rattle.std.specs.Cmp.Lexicographic.{slice_cmp}
 use Rattle.std.specs.Global.{Global}
 use Rattle.std.specs.List.Sorted.{IsPermutation, IsSortedBy}
-use Rattle.std.specs.Ordering.{is_lt}
+use Rattle.std.specs.Ordering.{is_lt, nat_cmp}
 use Rattle.std.specs.declared.io.Error.{Error}
 use Rattle.linegrep_files.specs.Choices.{IsWithin, SaysTheSame, notes_of}
 use Rattle.linegrep_files.specs.FolderFacts.{FolderFacts}
@@ -13,28 +14,18 @@ use Rattle.linegrep_files.specs.Folders.{name_of, names_of}
 use Rattle.linegrep_files.specs.Folders.{path_of}
 use Rattle.linegrep_files.specs.Limits.{allows_depth}
 use Rattle.linegrep_files.specs.Notes.{AreNoted, IsNote}
-use Rattle.linegrep_files.specs.Orders.{AreDated, AreSorted, is_by_time, order_of}
 use Rattle.linegrep_files.specs.Paths.{IsRoot}
 use Rattle.linegrep_files.specs.declared.choices.Choices.{Choices}
 use Rattle.linegrep_files.specs.declared.entry.Entry.{Entry}
-use Rattle.linegrep_files.specs.declared.entry.Entry.TheVariants.{File, Folder, Unread}
+use Rattle.linegrep_files.specs.declared.entry.Entry.TheVariants.{Folder, Unread}
 use Rattle.linegrep_files.specs.declared.notes.Note.{Note}
 use Rattle.linegrep_files.specs.declared.notes.Reason.TheVariants.{Deep}
-use Rattle.linegrep_files.specs.declared.order.Dated.{Dated}
-use Rattle.linegrep_files.specs.declared.order.Order.{Order}
-use Rattle.linegrep_files.specs.declared.order.SortKey.{SortKey}
 use Rattle.linegrep_files.specs.declared.walk.Route.{Route}
 use Rattle.linegrep_files.specs.declared.walk.Walk.{Walk}
 
--- whether something that is found waits until all is found: it does if it is a file that is sorted
--- by a time
-abbrev pub waits : Order → Entry → Bool
-waits order (File path) = is_by_time order
-waits order _ = false
-
 -- whether one entry of a folder is visited before another
-abbrev pub comes_before : Order → Entry → Entry → Bool
-comes_before order one other = is_lt (order_of order (path_of one) (path_of other))
+abbrev pub comes_before : Entry → Entry → Bool
+comes_before one other = is_lt (slice_cmp nat_cmp (path_of one) (path_of other))
 
 -- a walk asks a system, by a route, from a folder on that has a name for the system. Nothing is to
 -- be visited yet
@@ -42,11 +33,9 @@ pub record IsWith {S : Type 0} (system : Bor S) (route : Route) (top : String Gl
     (walk : Walk S) : Type 0 where
   pub system_is : walk.finder.system ≡ system
   pub links : walk.finder.follows_links ≡ route.follows_links
-  pub order : walk.order ≡ route.order
   pub top_is : walk.finder.top ≡ top
   pub root_is : walk.finder.root ≡ root
   pub pending : walk.pending.items ≡ []
-  pub dated : walk.dated.items ≡ []
 
 -- a walk begins: its folder is to be visited
 pub record IsBegun {S : Type 0} (system : Bor S) (route : Route) (folder : List ℕ)
@@ -56,27 +45,21 @@ pub record IsBegun {S : Type 0} (system : Bor S) (route : Route) (folder : List 
     pub is : string_bytes path ≡ folder
     pub system_is : walk.finder.system ≡ system
     pub links : walk.finder.follows_links ≡ route.follows_links
-    pub order : walk.order ≡ route.order
     pub top : string_bytes walk.finder.top ≡ name_of folder
     pub root : IsRoot folder walk.finder.root
     pub pending : walk.pending.items ≡ Folder path ∷ []
-    pub dated : walk.dated.items ≡ []
 
 -- what was found is added. It is visited next, in the order of paths, and what is visited first
--- comes last. The files that are sorted by a time are visited once nothing else is left
-pub record AreAdded {S : Type 0} (times : SortKey → List ℕ → Result (Option ℕ) Error → Type 0)
-    (old : Walk S) (found : List Entry) (new : Walk S) : Type 0 where
+-- comes last
+pub record AreAdded {S : Type 0} (old : Walk S) (found : List Entry) (new : Walk S) : Type 0 where
   pub next : List Entry
-  pub same : IsPermutation (filter (λ entry. not (waits old.order entry)) found) next
-  pub sorted : IsSortedBy (λ one other. comes_before old.order other one) next
+  pub same : IsPermutation found next
+  pub sorted : IsSortedBy (λ one other. comes_before other one) next
   pub pending : new.pending.items ≡ old.pending.items ++ next
-  pub later : AreDated times old.order old.dated.items
-      (map path_of (filter (waits old.order) found)) new.dated.items
 
--- a walk asks the same system by the same route, and what waits to be visited stays
+-- a walk asks the same system by the same route
 pub record GoesOn {S : Type 0} (old new : Walk S) : Type 0 where
   pub finder : new.finder ≡ old.finder
-  pub order : new.order ≡ old.order
 
 -- the names in a folder that are chosen are added, also by what the folder's ignore files say
 pub record AreNamesAdded {S : Type 0} (facts : S → FolderFacts) (old : Walk S) (choices : Choices)
@@ -88,7 +71,7 @@ pub record AreNamesAdded {S : Type 0} (facts : S → FolderFacts) (old : Walk S)
   pub are_found : AreFound (facts old.finder.system.now).looks old.finder.follows_links
       (string_bytes old.finder.top) old.finder.root within.limits within folder
       (names_of names) found
-  pub are_added : AreAdded (facts old.finder.system.now).times old found new
+  pub are_added : AreAdded old found new
   pub same : SaysTheSame within inside
 
 -- By what a system may say of folders and files.
@@ -98,14 +81,14 @@ module _ {S : Type 0} (facts : S → FolderFacts) where
   pub data IsEntered (old : Walk S) (choices : Choices) (folder : List ℕ) (new : Walk S)
       (inside : Choices) : Type 0 where
     of_deep : allows_depth choices.limits (depth_of old.finder.root folder) ≡ false
-        → new.pending ≡ old.pending → new.dated ≡ old.dated → SaysTheSame choices inside
+        → new.pending ≡ old.pending → SaysTheSame choices inside
         → IsEntered old choices folder new inside
     of_unread : (path : String Global) (error : Error)
         → allows_depth choices.limits (depth_of old.finder.root folder) ≡ true
         → (facts old.finder.system.now).lists (listed_path folder) (Err error)
         → string_bytes path ≡ name_of folder
         → new.pending.items ≡ old.pending.items ++ Unread path error ∷ []
-        → new.dated ≡ old.dated → SaysTheSame choices inside
+        → SaysTheSame choices inside
         → IsEntered old choices folder new inside
     of_names : (names : Vec ℕ Global)
         → allows_depth choices.limits (depth_of old.finder.root folder) ≡ true
@@ -143,17 +126,11 @@ pub data IsNoted {S : Type 0} (facts : S → FolderFacts) (walk : Walk S) (choic
       → AreNamesNoted facts walk choices folder names.items inside
       → IsNoted facts walk choices folder inside
 
--- what is visited next is the last entry of those that were added. If there is none, the files that
--- are sorted by a time are sorted, and added so that the first one comes last
+-- what is visited next is the last entry of those that were added
 pub data IsPopped {S : Type 0} (old : Walk S) : Option Entry → Walk S → Type 0 where
   of_pending : {new : Walk S} (entry : Entry) → old.is_out_of_memory ≡ false
-      → old.pending.items ≡ new.pending.items ++ entry ∷ [] → new.dated ≡ old.dated → GoesOn old new
+      → old.pending.items ≡ new.pending.items ++ entry ∷ [] → GoesOn old new
       → new.is_out_of_memory ≡ false → IsPopped old (Some entry) new
-  of_dated : {new : Walk S} (entry : Entry) (sorted : List Dated) → old.is_out_of_memory ≡ false
-      → old.pending.items ≡ [] → AreSorted old.order old.dated.items sorted
-      → map (λ file. File file.path) sorted ≡ new.pending.items ++ entry ∷ []
-      → new.dated.items ≡ [] → GoesOn old new → new.is_out_of_memory ≡ false
-      → IsPopped old (Some entry) new
   of_end : {new : Walk S} → old.is_out_of_memory ≡ false → old.pending.items ≡ []
-      → old.dated.items ≡ [] → new.is_out_of_memory ≡ false → IsPopped old None new
+      → new.is_out_of_memory ≡ false → IsPopped old None new
   of_memory : {new : Walk S} → new.is_out_of_memory ≡ true → IsPopped old None new

@@ -5,8 +5,7 @@ use crate::folders::Folders;
 
 /// If a walk ended with memory left, it has visited all that is visited of its folder: each file
 /// and each folder in it that is chosen, once, in the order of paths, and right after a folder what
-/// is in that folder. If files are sorted by a time, all of them come after everything else, in the
-/// order of their times, as the system says them.
+/// is in that folder.
 pub fn walks_end<S: Folders>()
     ensures { WalksEnd S.facts }
 {}

@@ -2,7 +2,7 @@
 ghost use Rattle.std.specs.Prelude.{◌≡◌, false, true, string_bytes, OnErr, OnOk};
 ghost use Rattle.linegrep_files.specs.Orders.{HasOrder, IsRanked, IsTimeOf, LacksOrder};
 ghost use Rattle.linegrep_files.specs.Orders.{by_path, by_time, is_by_time, is_late, named_order};
-ghost use Rattle.linegrep_files.specs.Orders.{order_of, rank_order, times_order, upward_order};
+ghost use Rattle.linegrep_files.specs.Orders.{rank_order, upward_order};
 
 use crate::failures::Failure;
 use crate::folders::Folders;
@@ -38,17 +38,6 @@ pub struct Ranked {
     /// The time, in nanoseconds from the start of 1970 on, if files are sorted by one and the
     /// system knows it.
     pub time: Option<u128>,
-}
-
-/// The path of a file, and the time that it is sorted by.
-#[derive(Drop)]
-pub struct Dated {
-    /// The path.
-    pub path: String,
-    // In nanoseconds from the start of 1970 on.
-    time: Option<u128>,
-    // How many files were found before it.
-    place: usize,
 }
 
 impl Order {
@@ -140,42 +129,6 @@ impl Order {
         } else {
             Path::new(one.path.as_str()).cmp(&Path::new(other.path.as_str()))
         }
-    }
-
-    /// How two paths of one folder are sorted.
-    pub fn compare_paths(&self, one: &str, other: &str) -> Ordering
-        ensures { result ≡ order_of self.now one.now other.now }
-    {
-        if self.is_reversed && !self.is_by_time() {
-            other.cmp(&one)
-        } else {
-            one.cmp(&other)
-        }
-    }
-
-    /// How two files are sorted by a time. A file whose time isn't known comes after the others, or
-    /// before them if the order is reversed.
-    pub fn compare_times(&self, one: &Dated, other: &Dated) -> Ordering
-        ensures { result ≡ times_order self.now one.now other.now }
-    {
-        let ordering = if self.is_reversed {
-            by_time(other.time, one.time)
-        } else {
-            by_time(one.time, other.time)
-        };
-        ordering.then(one.place.cmp(&other.place))
-    }
-
-    /// The file at a path, with the time that it is sorted by, as a system has it. `place` is how
-    /// many files were found before it.
-    pub fn date<S: Folders>(&self, system: &S, path: String, place: usize) -> Dated
-        ensures path { result.path ≡ path }
-        ensures place { result.place ≡ place }
-        ensures time { IsTimeOf (S.facts system.now).times self.now (string_bytes path)
-            result.time }
-    {
-        let time = self.time(system, path.as_str());
-        Dated { path, time, place }
     }
 
     // The time of the file at a path, if a system knows it.

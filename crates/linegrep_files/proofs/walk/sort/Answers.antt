@@ -6,5 +6,5 @@ use Rattle.linegrep_files.proofs.walk.sort.Goals as goal
 
 pub returns-clause-sorted : goal.returns-clause-sorted
 returns-clause-sorted c =
-    c.sort_unstable_by.ensures.sorted (λ one other. comes_before c.args.order other one)
-    (order-ranks c.args.order) (always_returns_same _ _ _ (λ a r f called. search rules))
+    c.sort_unstable_by.ensures.sorted (λ one other. comes_before other one)
+    order-ranks (always_returns_same _ _ _ (λ a r f called. search rules))

@@ -1,4 +1,4 @@
-use Rattle.std.proofs.Common.{◌≡◌, ◌<◌, length, rules}
+use Rattle.std.proofs.Common.{◌<◌, length, rules}
 use Rattle.linegrep_cli.specs.OperandRuns.{last_text, next_text, no_text}
 use Rattle.linegrep_cli.proofs.file_run.Run.say_texts.Goals as goal
 

@@ -1,6 +1,6 @@
-use Rattle.std.proofs.Common.{◌≡◌, ◌+◌, ◌∙◌, drop, false, inl, inr, rules, sym, take, true}
+use Rattle.std.proofs.Common.{◌+◌, ◌∙◌, drop, inl, inr, sym, take}
 use Rattle.std.proofs.lemmas.List.{drop_all, take-append-drop}
-use Rattle.linegrep_cli.specs.OperandRuns.{is_over, none_waiting}
+use Rattle.linegrep_cli.specs.OperandRuns.{none_waiting}
 use Rattle.linegrep_cli.proofs.OperandLemmas.{next-waits, not-over}
 use Rattle.linegrep_cli.proofs.file_run.Run.visit_all_waiting.Goals as goal
 

@@ -13,11 +13,9 @@ returns-in-Ok-begin g c memory =
       is = begun.1;
       system_is = ap (λ finder. finder.system) on.finder ∙ with.system_is;
       links = ap (λ finder. finder.follows_links) on.finder ∙ with.links;
-      order = on.order ∙ with.order;
       top = ap (λ finder. string_bytes finder.top) on.finder ∙ ap string_bytes with.top_is
           ∙ c.in-Ok.ensures.ok ∙ c.name_of.ensures;
       root = rw (ap (λ finder. finder.root) on.finder ∙ with.root_is)
           (rw c.as_bytes.ensures.value at c.root_of.ensures);
       pending = begun.2 ∙ ap (λ l. l ++ Folder begun.0 ∷ []) with.pending;
-      dated = ap (λ dated. dated.items) c.begin.ensures.dated ∙ with.dated;
     }

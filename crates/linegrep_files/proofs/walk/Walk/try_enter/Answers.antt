@@ -9,7 +9,7 @@ use Rattle.linegrep_files.proofs.walk.Walk.try_enter.Goals as goal
 
 pub returns-then-not-allows_depth-clause-entered : goal.returns-then-not-allows_depth-clause-entered
 returns-then-not-allows_depth-clause-entered g c =
-    of_deep (is-deep c.limits.ensures c.depth.ensures c.allows_depth.ensures c.if-not-allows_depth.true) refl refl
+    of_deep (is-deep c.limits.ensures c.depth.ensures c.allows_depth.ensures c.if-not-allows_depth.true) refl
     c.note.ensures.same
 
 pub returns-then-not-allows_depth-clause-noted : goal.returns-then-not-allows_depth-clause-noted
@@ -40,7 +40,7 @@ returns-clause-entered g c =
     of_unread pushed.0 c.in-Err.error
     (isnt-deep c.limits.ensures c.depth.ensures c.allows_depth.ensures c.if-not-allows_depth.false)
     (rw (c.in-Err.is, c.as_str.ensures.value, c.in_ok-path.ensures) at c.names.ensures)
-    (pushed.1 ∙ c.name_of-in-Err-2.ensures) pushed.2 c.push_unread.ensures.dated (same-self c.args.choices.now)
+    (pushed.1 ∙ c.name_of-in-Err-2.ensures) pushed.2 (same-self c.args.choices.now)
 
 pub returns-clause-noted : goal.returns-clause-noted
 returns-clause-noted g c = of_unread_folder c.in-Err.error
