@@ -7,6 +7,7 @@ pub mod CountedLemmas
 pub mod JsonBytesLemmas
 pub mod JsonLineLemmas
 pub mod FoundPartLemmas
+pub mod HyperlinkLemmas
 pub mod LineFeedLemmas
 pub mod LinePlaceLemmas
 pub mod PartTextLemmas

@@ -5,6 +5,7 @@ pub mod ColoredTexts
 pub mod CountedTexts
 pub mod FormatEnds
 pub mod Formats
+pub mod HyperlinkFormats
 pub mod JsonEnds
 pub mod JsonLaws
 pub mod JsonMessages
