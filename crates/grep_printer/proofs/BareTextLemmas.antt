@@ -2,7 +2,6 @@
 use Rattle.std.proofs.Common.{◌≡◌, ◌∙◌, ℕ, List, [], ◌∷◌, ◌++◌, ap, ap₂, length, refl, sym}
 use Rattle.std.proofs.Math.Bool.{and-false}
 use Rattle.std.proofs.lemmas.Bool.{and_parts, not-true}
-use Rattle.std.specs.Borrow.{Bor}
 use Rattle.std.specs.Option.{is_none}
 use Rattle.std.specs.Prelude.{Bool, ◌==◌, false, true, ◌&&◌, if◌then◌else◌, is_some, not, Option, None, Some}
 use Rattle.grep_matcher.specs.Lines.{byte_of}
@@ -24,6 +23,7 @@ use Rattle.grep_printer.specs.declared.config.SearchSeparator.{SearchSeparator}
 use Rattle.grep_printer.specs.declared.config.SearchSeparator.TheVariants.{Blank, Groups, Nothing}
 use Rattle.grep_printer.specs.declared.fields.Layout.{Layout}
 use Rattle.grep_printer.specs.declared.fields.LineKind.TheVariants.{Match as match_line, Context as context_line}
+use Rattle.grep_printer.specs.declared.hyperlinks.PrinterPath.{PrinterPath}
 use Rattle.grep_printer.specs.declared.standard.Progress.{Progress}
 
 nothing-is : (separator : SearchSeparator) → is_nothing separator ≡ true → separator ≡ Nothing
@@ -71,7 +71,7 @@ no-opening config scene progress are =
     (none-either config.heading _ [] (ap (path_field (path_color config.color_specs) _) are.path) refl))
 
 -- nothing is written of a binary byte
-no-message : (color : Option (List ℕ)) (detection : BinaryDetection) (path : Option (Bor (List ℕ))) (binary : Option ℕ)
+no-message : (color : Option (List ℕ)) (detection : BinaryDetection) (path : Option PrinterPath) (binary : Option ℕ)
     → convert_byte_of detection ≡ None → quit_byte_of detection ≡ None → message_text color detection path binary ≡ []
 no-message color detection path None converts quits = refl
 no-message color no_detection path (Some offset) converts quits = refl
@@ -105,12 +105,12 @@ module _ (config : Config) (progress : Progress) (scene : Scene) (are : AreBare 
       shown (report_text layout (matches number offset bytes around) [])
       ∙ (ap (instead _ _) no-parts
       ∙ lines-plain layout match_line are.plain
-      (record { number = number; column = None; offset = offset; start = 0 }) [] (lines (end_byte layout) bytes) refl)
+      (record { number = number; column = None; offset = offset; start = 0 }) [] (lines (end_byte layout) bytes))
   bare-is (context kind number offset line) =
       shown (report_text layout (context kind number offset line) [])
       ∙ (ap (instead _ _) no-parts
       ∙ line-plain layout context_line are.plain
-      (record { number = number; column = None; offset = offset; start = 0 }) [] line refl)
+      (record { number = number; column = None; offset = offset; start = 0 }) [] line)
   bare-is breaks = ap (λ s. break_text s (end_byte layout)) (none-is config.separators
       (are_plain config scene.path are.plain).apart)
   bare-is (binary_data offset) = refl

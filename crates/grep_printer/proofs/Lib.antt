@@ -10,6 +10,7 @@ pub mod FoundPartLemmas
 pub mod HyperlinkLemmas
 pub mod LineFeedLemmas
 pub mod LinePlaceLemmas
+pub mod LinkedFieldLemmas
 pub mod PartTextLemmas
 pub mod PassedLineLemmas
 pub mod PlainLineLemmas

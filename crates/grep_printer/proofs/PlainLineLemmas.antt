@@ -5,23 +5,24 @@ use Rattle.std.proofs.lemmas.Bool.{and_parts, cases_eq, eq-eqb, not-true}
 use Rattle.std.proofs.lemmas.Bool.Decides.{nat_tests}
 use Rattle.std.proofs.lemmas.List.{append-nil}
 use Rattle.std.proofs.lemmas.List.Sums.{sum_by-cons}
-use Rattle.std.specs.List.{concat, count_by, flat_map}
-use Rattle.std.specs.Borrow.{Bor}
+use Rattle.std.specs.List.{count_by, flat_map}
 use Rattle.std.specs.Option.{is_none}
 use Rattle.std.specs.Prelude.{Bool, false, true, ◌||◌, if◌then◌else◌, cond, max, min, nat_lt, not, Option, None, Some, slice_range}
-use Rattle.grep_matcher.proofs.LineLemmas.{lines-end, lines-inner, lines-joined}
+use Rattle.grep_matcher.proofs.LineLemmas.{lines-end, lines-inner}
 use Rattle.grep_matcher.specs.Lines.{lines, onto_first}
 use Rattle.grep_searcher.specs.Lines.{strip}
 use Rattle.grep_printer.specs.MatchedParts.{AreInOrder, ends_after}
 use Rattle.grep_printer.specs.ColoredTexts.{line_color, matched_color, path_color}
+use Rattle.grep_printer.specs.Hyperlinks.{prefix_link, shown_path}
 use Rattle.grep_printer.specs.LineTexts.{end_byte, is_plain, line_text, lines_text, mark_after, mark_byte, missing_end}
-use Rattle.grep_printer.specs.LineTexts.{next_number, number_field, path_field, place_after, plain_line, plain_lines, plain_part}
+use Rattle.grep_printer.specs.LineTexts.{next_number, number_field, place_after, text_field, plain_line, plain_lines, plain_part}
 use Rattle.grep_printer.specs.LineTexts.{shown_line}
 use Rattle.grep_printer.specs.Reports.{HasPlainParts, call_of, report_place, reporting_call, surroundings_of}
 use Rattle.grep_printer.specs.StandardTexts.{report_text}
-use Rattle.grep_printer.specs.PartTexts.{across_text, clipped_text, column_of, is_in_span, line_span, part_place, writes_parts}
+use Rattle.grep_printer.specs.PartTexts.{across_text, clipped_text, is_in_span, line_span, part_place, writes_parts}
 use Rattle.grep_printer.specs.declared.config.Config.{Config}
 use Rattle.grep_printer.specs.declared.fields.Layout.{Layout}
+use Rattle.grep_printer.specs.declared.hyperlinks.PrinterPath.{PrinterPath}
 use Rattle.grep_printer.specs.declared.fields.LineKind.{LineKind}
 use Rattle.grep_printer.specs.declared.fields.LineKind.TheVariants.{Match as match_line, Context as context_line}
 use Rattle.grep_printer.specs.declared.fields.Place.{Place}
@@ -120,11 +121,17 @@ pub none-is : {X : Type 0} → (o : Option X) → is_none o ≡ true → o ≡ N
 none-is None none = refl
 none-is (Some x) none = absurd cc
 
-path-none : (heading : Bool) (color : Option (List ℕ)) (mark : List ℕ) (path : Option (Bor (List ℕ)))
-    → (heading || is_none path) ≡ true → (if heading then [] else path_field color mark path) ≡ []
+path-none : (heading : Bool) (color : Option (List ℕ)) (mark : List ℕ) (path : Option PrinterPath)
+    → (heading || is_none path) ≡ true → (if heading then [] else text_field color mark (shown_path path)) ≡ []
 path-none true color mark path none = refl
 path-none false color mark None none = refl
 path-none false color mark (Some path) none = absurd cc
+
+-- a number that isn't written
+shown-none : (is_written : Bool) (number : Option ℕ) → not is_written ≡ true
+    → (if is_written then number else None) ≡ None
+shown-none true number none = absurd cc
+shown-none false number none = refl
 
 offset-none : (is_written : Bool) (offset : ℕ) → not is_written ≡ true
     → (if is_written then Some offset else None) ≡ None
@@ -132,8 +139,9 @@ offset-none true offset none = absurd cc
 offset-none false offset none = refl
 
 -- settings by which lines are written as they are
-pub record ArePlain (config : Config) (path : Option (Bor (List ℕ))) : Type 0 where
+pub record ArePlain (config : Config) (path : Option PrinterPath) : Type 0 where
   pub paths : (config.heading || is_none path) ≡ true
+  pub links : is_none (prefix_link config.heading path) ≡ true
   pub columns : not config.column ≡ true
   pub offsets : not config.byte_offset ≡ true
   pub limits : is_none config.max_columns ≡ true
@@ -142,7 +150,7 @@ pub record ArePlain (config : Config) (path : Option (Bor (List ℕ))) : Type 0 
   pub indented : not config.trim_ascii ≡ true
   pub apart : is_none config.separators ≡ true
 
-pub are_plain : (config : Config) (path : Option (Bor (List ℕ))) → is_plain config path ≡ true → ArePlain config path
+pub are_plain : (config : Config) (path : Option PrinterPath) → is_plain config path ≡ true → ArePlain config path
 are_plain config path plain =
     let y = and_parts _ (is_none config.separators) plain in
     let z = and_parts _ (not config.trim_ascii) y.0 in
@@ -150,9 +158,11 @@ are_plain config path plain =
     let b = and_parts _ (is_none (line_color config.color_specs)) a.0 in
     let c = and_parts _ (is_none config.max_columns) b.0 in
     let e = and_parts _ (not config.byte_offset) c.0 in
-    let f = and_parts (config.heading || is_none path) (not config.column) e.0 in
+    let f = and_parts _ (not config.column) e.0 in
+    let g = and_parts (config.heading || is_none path) (is_none (prefix_link config.heading path)) f.0 in
     record {
-      paths = f.0;
+      paths = g.0;
+      links = g.1;
       columns = f.1;
       offsets = e.1;
       limits = c.1;
@@ -162,16 +172,12 @@ are_plain config path plain =
       apart = y.1;
     }
 
-column-none : (layout : Layout) (parts : List (ℕ × ℕ)) → not layout.config.column ≡ true → column_of layout parts ≡ None
-column-none layout [] none = refl
-column-none layout (part ∷ later) none = offset-none layout.config.column (part.0 + 1) none
-
 module _ (layout : Layout) (kind : LineKind) (plain : is_plain layout.config layout.path ≡ true) where
   -- a line that is written as it is
-  pub line-plain : (place : Place) (parts : List (ℕ × ℕ)) (line : List ℕ) → place.column ≡ None
+  pub line-plain : (place : Place) (parts : List (ℕ × ℕ)) (line : List ℕ)
       → line_text layout kind place parts line ≡ plain_line (end_byte layout) (mark_byte kind) place.number line
   unfolding shown_line
-  line-plain place parts line column =
+  line-plain place parts line =
       let are = are_plain layout.config layout.path plain in
       let matched = none-is (matched_color layout.config.color_specs) are.matched in
       let color = none-is (line_color layout.config.color_specs) are.numbers in
@@ -179,12 +185,15 @@ module _ (layout : Layout) (kind : LineKind) (plain : is_plain layout.config lay
       let indented = not-true layout.config.trim_ascii are.indented in
       let no_path = path-none layout.config.heading (path_color layout.config.color_specs)
       (mark_after layout.config.path_terminator (mark_byte kind ∷ [])) layout.path are.paths in
+      let no_link = none-is (prefix_link layout.config.heading layout.path) are.links in
+      let no_column = shown-none layout.config.column place.column are.columns in
       let no_offset = offset-none layout.config.byte_offset place.offset are.offsets in
       let apart = none-is layout.config.separators are.apart in
       simp (
         apart,
+        no_link,
         no_path,
-        column,
+        no_column,
         no_offset,
         most,
         color,
@@ -194,14 +203,14 @@ module _ (layout : Layout) (kind : LineKind) (plain : is_plain layout.config lay
       ) refl
 
   -- such lines
-  pub lines-plain : (place : Place) (parts : List (ℕ × ℕ)) (ls : List (List ℕ)) → place.column ≡ None
+  pub lines-plain : (place : Place) (parts : List (ℕ × ℕ)) (ls : List (List ℕ))
       → lines_text layout kind place parts ls ≡ plain_lines (end_byte layout) (mark_byte kind) place.number ls
-  lines-plain place parts [] column = refl
-  lines-plain place parts (line ∷ later) column =
+  lines-plain place parts [] = refl
+  lines-plain place parts (line ∷ later) =
       ap (λ (t : List ℕ). t ++ lines_text layout kind (place_after place line) parts later)
-      (line-plain place parts line column)
+      (line-plain place parts line)
       ∙ ap (λ (t : List ℕ). plain_line (end_byte layout) (mark_byte kind) place.number line ++ t)
-      (lines-plain (place_after place line) parts later column)
+      (lines-plain (place_after place line) parts later)
 
 -- a report that is written so
 module _ (layout : Layout) (report : Report) (parts : List (ℕ × ℕ)) (plain : is_plain layout.config layout.path ≡ true)
@@ -209,17 +218,14 @@ module _ (layout : Layout) (report : Report) (parts : List (ℕ × ℕ)) (plain 
     abbrev instead : List ℕ → List ℕ → Bool → List ℕ
     instead in_parts in_lines by_parts = if by_parts then in_parts else in_lines
 
-    column : column_of layout parts ≡ None
-    column = column-none layout parts (are_plain layout.config layout.path plain).columns
-
     -- a match of which no parts are written
     pub match-plain : writes_parts layout parts ≡ false
         → report_text layout (reporting_call Match report.number report.offset report.bytes.now
         (surroundings_of report)) parts
         ≡ plain_lines (end_byte layout) 58 report.number (lines (end_byte layout) report.bytes.now)
     match-plain whole = ap (instead _ _) whole
-        ∙ lines-plain layout match_line plain (report_place layout report parts) parts
-        (lines (end_byte layout) report.bytes.now) column
+        ∙ lines-plain layout match_line plain (report_place report parts) parts
+        (lines (end_byte layout) report.bytes.now)
 
     -- a line that isn't a match, so too
     pub context-plain : writes_parts layout parts ≡ false → (kind : SinkContextKind)
@@ -227,7 +233,7 @@ module _ (layout : Layout) (report : Report) (parts : List (ℕ × ℕ)) (plain 
         (surroundings_of report)) parts
         ≡ plain_line (end_byte layout) 45 report.number report.bytes.now
     context-plain whole kind = ap (instead _ _) whole
-        ∙ line-plain layout context_line plain (report_place layout report parts) parts report.bytes.now column
+        ∙ line-plain layout context_line plain (report_place report parts) parts report.bytes.now
 
     -- a part of a line that has its terminator, if it doesn't reach into that
     part-plain : (part : ℕ × ℕ) → part.0 ≤ part.1 → part.1 ≤ length (strip layout.terminator report.bytes.now)
@@ -240,15 +246,13 @@ module _ (layout : Layout) (report : Report) (parts : List (ℕ × ℕ)) (plain 
         let start : max part.0 0 ≡ part.0 = omega arith in
         let end : max (max part.0 0) (min part.1 span.end) ≡ part.1 = omega (arith, ordered, within) in
         let inside : is_in_span span part ≡ true = grind (arith, nat_tests, ordered, within, ended) in
-        let no_column = offset-none layout.config.column (part.0 + 1)
-        (are_plain layout.config layout.path plain).columns in
         ap (λ holds. if holds then line_text layout match_line
-        (record (part_place layout match_line report.offset report.bytes.now report.number part) {
+        (record (part_place report.offset report.number part) {
           start = max part.0 span.start;
         }) (part ∷ []) (slice_range report.bytes.now (max part.0 span.start)
         (max (max part.0 span.start) (min part.1 span.end))) else []) inside
         ∙ (line-plain layout match_line plain _ (part ∷ [])
-        (slice_range report.bytes.now (max part.0 0) (max (max part.0 0) (min part.1 span.end))) no_column
+        (slice_range report.bytes.now (max part.0 0) (max (max part.0 0) (min part.1 span.end)))
         ∙ ap₂ (λ a b. plain_line (end_byte layout) 58 report.number (slice_range report.bytes.now a b)) start end)
 
     -- such parts

@@ -15,6 +15,7 @@ use Rattle.json.specs.Print.{print}
 use Rattle.json.specs.Tree.{json_tokens}
 use Rattle.grep_printer.proofs.SomeTextLemmas.{text-after, text-ended}
 use Rattle.grep_printer.specs.Formats.{Printed, PrintedCall, Scene, is_text, printed_with}
+use Rattle.grep_printer.specs.Hyperlinks.{shown_path}
 use Rattle.grep_printer.specs.JsonMessages.{begin_json, json_line}
 use Rattle.grep_printer.specs.JsonTexts.{is_opened, json_progress, json_rules, json_text, new_json_format, new_json_progress}
 use Rattle.grep_printer.specs.JsonTexts.{opening_line, with_end, with_match, with_text}
@@ -112,8 +113,8 @@ module _ {R : Type 0} (text_at : R → TextAt) (always : Bool) (replacer : R) (s
 
   -- the text of a report
   report-some : (progress : JsonProgress) (j : Json)
-      → is_text (opening_line scene.path progress.is_begun ++ json_line j) ≡ true
-  report-some progress j = text-after (opening_line scene.path progress.is_begun) (json_line j) (text-line j)
+      → is_text (opening_line (shown_path scene.path) progress.is_begun ++ json_line j) ≡ true
+  report-some progress j = text-after (opening_line (shown_path scene.path) progress.is_begun) (json_line j) (text-line j)
 
   -- a call that isn't a match
   counted-other : (here : ℕ → Option (List ℕ)) (found lines parts : ℕ) (progress : JsonProgress) (made : List ℕ)
@@ -124,10 +125,10 @@ module _ {R : Type 0} (text_at : R → TextAt) (always : Bool) (replacer : R) (s
   counted-other here found lines parts progress made begins ranges other is = go (is_opened always progress)
     where
       go : (b : Bool) → IsCounted found lines parts
-          (if b then with_text progress (if b then json_line (begin_json scene.path) else []) else progress)
-          (made ++ (if b then json_line (begin_json scene.path) else []))
-      go true = counted-text found lines parts progress made (json_line (begin_json scene.path))
-          (text-line (begin_json scene.path)) is
+          (if b then with_text progress (if b then json_line (begin_json (shown_path scene.path)) else []) else progress)
+          (made ++ (if b then json_line (begin_json (shown_path scene.path)) else []))
+      go true = counted-text found lines parts progress made (json_line (begin_json (shown_path scene.path)))
+          (text-line (begin_json (shown_path scene.path))) is
       go false = counted-same found lines parts progress made is
   counted-other here found lines parts progress made (matches number offset bytes around) ranges other is = absurd cc
   counted-other here found lines parts progress made (context kind number offset bytes) ranges other is =

@@ -13,6 +13,7 @@ use Rattle.grep_searcher.specs.Plans.{Call, begins, matches, context, breaks, bi
 use Rattle.grep_printer.proofs.ReadBackLemmas.{messages-read-back}
 use Rattle.grep_printer.proofs.ReportToldLemmas.{begin-other, messages-tell}
 use Rattle.grep_printer.specs.Formats.{PrintedCall, Scene, printed_by, printed_with}
+use Rattle.grep_printer.specs.Hyperlinks.{shown_path}
 use Rattle.grep_printer.specs.JsonLaws.{IsLineOf, IsReport, IsSameReport, IsWordRange, Reported}
 use Rattle.grep_printer.specs.JsonLaws.{message_of_report}
 use Rattle.grep_printer.specs.JsonMessages.{begin_json, json_line}
@@ -89,20 +90,20 @@ module _ {R : Type 0} (text_at : R → TextAt) (always : Bool) (replacer : R) (s
   -- one call with its parts, and those after it
   text-more : (progress : JsonProgress) (call : Call) (parts : List (ℕ × ℕ))
       (later : List PrintedCall)
-      → flat_map json_line (messages_of always scene.path texts progress.is_begun
+      → flat_map json_line (messages_of always (shown_path scene.path) texts progress.is_begun
       (record { call = call; parts = parts } ∷ later))
       ≡ json_text always scene (texts call) progress call parts
-      ++ flat_map json_line (messages_of always scene.path texts (json_progress always scene (texts call) progress call parts).is_begun
+      ++ flat_map json_line (messages_of always (shown_path scene.path) texts (json_progress always scene (texts call) progress call parts).is_begun
       later)
   text-more progress begins parts later = go always progress.is_begun
     where
       go : (due begun : Bool)
           → flat_map json_line ((if not begun && (due || list_any (λ p. opens always p.call) later)
-          then begin_json scene.path ∷ [] else []) ++ map message_of_report (reports_of scene.path texts later))
-          ≡ (if due && not begun then json_line (begin_json scene.path) else [])
-          ++ flat_map json_line (messages_of always scene.path texts
+          then begin_json (shown_path scene.path) ∷ [] else []) ++ map message_of_report (reports_of (shown_path scene.path) texts later))
+          ≡ (if due && not begun then json_line (begin_json (shown_path scene.path)) else [])
+          ++ flat_map json_line (messages_of always (shown_path scene.path) texts
           (if due && not begun
-          then with_text progress (if due && not begun then json_line (begin_json scene.path) else [])
+          then with_text progress (if due && not begun then json_line (begin_json (shown_path scene.path)) else [])
           else record progress { is_begun = begun }).is_begun later)
       go true true = refl
       go true false = refl
@@ -110,29 +111,29 @@ module _ {R : Type 0} (text_at : R → TextAt) (always : Bool) (replacer : R) (s
   text-more progress (matches number offset bytes around) parts later = go progress.is_begun
     where
       go : (begun : Bool)
-          → flat_map json_line (messages_of always scene.path texts begun
+          → flat_map json_line (messages_of always (shown_path scene.path) texts begun
           (record { call = matches number offset bytes around; parts = parts } ∷ later))
           ≡ json_text always scene (texts (matches number offset bytes around))
           (record progress { is_begun = begun }) (matches number offset bytes around) parts
-          ++ flat_map json_line (messages_of always scene.path texts true later)
+          ++ flat_map json_line (messages_of always (shown_path scene.path) texts true later)
       go true = refl
-      go false = sym (append_assoc (json_line (begin_json scene.path)) _ _)
+      go false = sym (append_assoc (json_line (begin_json (shown_path scene.path))) _ _)
   text-more progress (context kind number offset bytes) parts later = go progress.is_begun
     where
       go : (begun : Bool)
-          → flat_map json_line (messages_of always scene.path texts begun
+          → flat_map json_line (messages_of always (shown_path scene.path) texts begun
           (record { call = context kind number offset bytes; parts = parts } ∷ later))
           ≡ json_text always scene (texts (context kind number offset bytes))
           (record progress { is_begun = begun }) (context kind number offset bytes) parts
-          ++ flat_map json_line (messages_of always scene.path texts true later)
+          ++ flat_map json_line (messages_of always (shown_path scene.path) texts true later)
       go true = refl
-      go false = sym (append_assoc (json_line (begin_json scene.path)) _ _)
+      go false = sym (append_assoc (json_line (begin_json (shown_path scene.path))) _ _)
   text-more progress breaks parts later = refl
   text-more progress (binary_data offset) parts later = refl
   text-more progress (finishes count binary) parts later = refl
 
   -- no calls have no message
-  messages-none : (begun : Bool) → messages_of always scene.path texts begun [] ≡ []
+  messages-none : (begun : Bool) → messages_of always (shown_path scene.path) texts begun [] ≡ []
   messages-none true = refl
   messages-none false = refl
 
@@ -143,14 +144,14 @@ module _ {R : Type 0} (text_at : R → TextAt) (always : Bool) (replacer : R) (s
         format = record { always_begin_end = always; replacer = replacer; progress = progress };
         text = text;
       }) calls).text
-      ≡ text ++ flat_map json_line (messages_of always scene.path texts progress.is_begun calls)
+      ≡ text ++ flat_map json_line (messages_of always (shown_path scene.path) texts progress.is_begun calls)
   text-all [] progress text =
       sym (append-nil text)
       ∙ ap (λ ms. text ++ flat_map json_line ms) (sym (messages-none progress.is_begun))
   text-all (printed ∷ later) progress text =
       let here = json_text always scene (texts printed.call) progress printed.call printed.parts in
       let after = json_progress always scene (texts printed.call) progress printed.call printed.parts in
-      let rest = flat_map json_line (messages_of always scene.path texts after.is_begun later) in
+      let rest = flat_map json_line (messages_of always (shown_path scene.path) texts after.is_begun later) in
       text-all later after (text ++ here)
       ∙ (append_assoc text here rest
       ∙ ap (λ t. text ++ t) (sym (text-more progress printed.call printed.parts later)))
@@ -236,10 +237,10 @@ messages-same false false path other first later one two same = reports-same fir
 pub searches-read : {R : Type 0} (text_at : R → TextAt) → SearchesAreReadBack text_at
 searches-read text_at format scene calls has =
     let texts = texts_of text_at format scene in
-    lines-read (messages_of format.always_begin_end scene.path texts format.progress.is_begun calls)
+    lines-read (messages_of format.always_begin_end (shown_path scene.path) texts format.progress.is_begun calls)
     (printed_by (json_rules text_at) scene format calls).text
     (text-all text_at format.always_begin_end format.replacer scene calls format.progress [])
-    (messages-read format.always_begin_end scene.path texts format.progress.is_begun calls has)
+    (messages-read format.always_begin_end (shown_path scene.path) texts format.progress.is_begun calls has)
 
 pub searches-tell : {R : Type 0} (text_at : R → TextAt) → SearchesTell text_at
 searches-tell text_at format other scene another calls others has also same =
@@ -250,11 +251,11 @@ searches-tell text_at format other scene another calls others has also same =
     messages-same
     (not format.progress.is_begun && list_any (λ p. opens format.always_begin_end p.call) calls)
     (not other.progress.is_begun && list_any (λ p. opens other.always_begin_end p.call) others)
-    scene.path another.path (reports_of scene.path first calls) (reports_of another.path second others)
-    (calls-words scene.path first calls has) (calls-words another.path second others also)
-    (lines-tell (messages_of format.always_begin_end scene.path first format.progress.is_begun calls)
-    (messages_of other.always_begin_end another.path second other.progress.is_begun others)
+    (shown_path scene.path) (shown_path another.path) (reports_of (shown_path scene.path) first calls) (reports_of (shown_path another.path) second others)
+    (calls-words (shown_path scene.path) first calls has) (calls-words (shown_path another.path) second others also)
+    (lines-tell (messages_of format.always_begin_end (shown_path scene.path) first format.progress.is_begun calls)
+    (messages_of other.always_begin_end (shown_path another.path) second other.progress.is_begun others)
     (lines 10 (printed_by (json_rules text_at) scene format calls).text) one.read
     (subst (λ text. AllZip IsLineOf
-    (messages_of other.always_begin_end another.path second other.progress.is_begun others)
+    (messages_of other.always_begin_end (shown_path another.path) second other.progress.is_begun others)
     (lines 10 text)) (sym same) two.read))

@@ -16,6 +16,9 @@ use Rattle.grep_searcher.specs.SinkArguments.{match_call}
 use Rattle.grep_searcher.specs.MatchedLines.{calls_of_lines}
 use Rattle.grep_printer.specs.ColoredTexts.{is_matched, matched_color, painted, reset}
 use Rattle.grep_printer.specs.Formats.{AreTexts, Scene}
+use Rattle.grep_printer.specs.Hyperlinks.{prefix_link}
+use Rattle.grep_printer.specs.LineTexts.{fields_with}
+use Rattle.grep_printer.specs.declared.hyperlinks.Hyperlink.{Hyperlink}
 use Rattle.grep_printer.specs.LineTexts.{counted_parts, end_byte, fields, indentation, is_long, line_text}
 use Rattle.grep_printer.specs.LineTexts.{lines_text, long_text, missing_end, more_notice, next_number, notice}
 use Rattle.grep_printer.specs.LineTexts.{painted_line, place_after, preview_text, previewed, shown_line, trimmed}
@@ -109,6 +112,12 @@ module _ (layout : Layout) where
       ∙ sym (preview-anywhere (0 + indentation layout line) (trimmed layout line)))
       (none-counted place.start line ∙ sym (none-counted 0 line))
 
+  -- nor do its fields
+  fields-anywhere : (link : Option Hyperlink) (place : Place)
+      → fields_with layout link Match place ≡ fields_with layout link Match (record place { start = 0 })
+  fields-anywhere None place = refl
+  fields-anywhere (Some link) place = refl
+
   line-anywhere : (place : Place) (line : List ℕ) → line_text layout Match place [] line
       ≡ line_text layout Match (record place { start = 0 }) [] line
   unfolding shown_line
@@ -119,6 +128,8 @@ module _ (layout : Layout) where
       (long-anywhere place line)
       (painted-anywhere (place.start + indentation layout line) (trimmed layout line)
       ∙ sym (painted-anywhere (0 + indentation layout line) (trimmed layout line)))
+      ∙ ap (λ (before : List ℕ). before ++ shown_line layout Match (record place { start = 0 }) [] line)
+      (fields-anywhere (prefix_link layout.config.heading layout.path) place)
 
   writes-none : writes_parts layout [] ≡ false
   writes-none = grind arith

@@ -1,14 +1,14 @@
 -- What a printer makes of the calls of a search, whatever its format is.
 use Rattle.std.specs.Prelude.{◌≡◌, ◌⊎◌, ℕ, Bool, true, false, not, ◌&&◌, ◌||◌, ◌==◌, List, [], ◌∷◌}
 use Rattle.std.specs.Prelude.{◌++◌, length, Option}
-use Rattle.std.specs.Borrow.{Bor}
 use Rattle.std.specs.List.{fold}
 use Rattle.grep_searcher.specs.Plans.{Call, Finish, Planned, Settings, finishes}
+use Rattle.grep_printer.specs.declared.hyperlinks.PrinterPath.{PrinterPath}
 
 -- what the text of a call depends on beside the format: the path, if there is one, and the settings
 -- of the search
 pub record Scene : Type 0 where
-  pub path : Option (Bor (List ℕ))
+  pub path : Option PrinterPath
   pub settings : Settings
 
 -- a call, and the parts of its report that match, if they are asked for

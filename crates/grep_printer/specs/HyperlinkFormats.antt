@@ -62,8 +62,8 @@ name_len bytes = prefix_len (λ byte. not (byte == 125)) bytes
 -- that is no variable
 abbrev pub IsMalformedIn : List ℕ → HyperlinkFormatError → Type 0
 IsMalformedIn rest Unclosed = begins_with 125 (drop (name_len rest) rest) ≡ false
-IsMalformedIn rest (UnknownVariable name) = (later : List ℕ) × (name.now ≡ take (name_len rest) rest)
-    × (rest ≡ name.now ++ 125 ∷ later) × (variable_of name.now ≡ None)
+IsMalformedIn rest (UnknownVariable name) = (later : List ℕ)
+    × (name.now ≡ take (name_len rest) rest) × (rest ≡ name.now ++ 125 ∷ later) × (variable_of name.now ≡ None)
 IsMalformedIn rest error = ⊥
 
 -- an error at the beginning of some bytes: they begin with a closing brace that isn't doubled, or
@@ -74,8 +74,8 @@ IsMalformedAt bytes error =
     ⊎ ((rest : List ℕ) × (bytes ≡ 123 ∷ rest) × (begins_with 123 rest ≡ false)
     × IsMalformedIn rest error)
 
--- a text is some parts, as a format spells them, and then bytes with an error at their beginning; or
--- there is no memory for its parts
+-- a text is some parts, as a format spells them, and then bytes with an error at their beginning;
+-- or there is no memory for its parts
 abbrev pub IsMalformed : List ℕ → HyperlinkFormatError → Type 0
 IsMalformed text error = (error ≡ Memory)
     ⊎ ((parts : List HyperlinkPart) × (rest : List ℕ) × (text ≡ spelled parts ++ rest)
@@ -153,7 +153,8 @@ format_text text =
     else if bytes_eq text (codes "cursor") then codes "cursor://file{path}:{line}:{column}"
     else text
 
--- these are the parts of the format that a text or a name stands for, and nothing is wrong with them
+-- these are the parts of the format that a text or a name stands for, and nothing is wrong with
+-- them
 abbrev pub IsFormatOf : List ℕ → List HyperlinkPart → Type 0
 IsFormatOf text parts = (spelled parts ≡ format_text text) × (fault_of parts ≡ None)
 

@@ -6,6 +6,7 @@ use Rattle.grep_matcher.specs.Lines.{byte_of}
 use Rattle.grep_searcher.specs.Lines.{lines}
 use Rattle.grep_searcher.specs.Plans.{Call, begins, matches, context, breaks, binary_data, finishes}
 use Rattle.grep_printer.specs.Formats.{Rules, Scene}
+use Rattle.grep_printer.specs.Hyperlinks.{shown_path}
 use Rattle.grep_printer.specs.JsonMessages.{begin_json, end_json, json_line, report_json}
 use Rattle.grep_printer.specs.ReplacerTexts.{TextAt}
 use Rattle.grep_printer.specs.StatsSums.{capped_sum, no_stats}
@@ -80,12 +81,13 @@ module _ (always_begin_end : Bool) (scene : Scene) (text_at : ℕ → Option (Li
   -- the text of a call with the matches in its report, by what was reported before
   abbrev pub json_text : JsonProgress → Call → List (ℕ × ℕ) → List ℕ
   json_text progress begins ranges =
-      if is_opened always_begin_end progress then json_line (begin_json scene.path) else []
+      if is_opened always_begin_end progress then json_line (begin_json (shown_path scene.path))
+      else []
   json_text progress (matches number offset bytes around) ranges =
-      report_line scene.path progress (codes "match") bytes number offset text_at
+      report_line (shown_path scene.path) progress (codes "match") bytes number offset text_at
       ranges
   json_text progress (context kind number offset bytes) ranges =
-      report_line scene.path progress (codes "context") bytes number offset text_at
+      report_line (shown_path scene.path) progress (codes "context") bytes number offset text_at
       ranges
   json_text progress breaks ranges = []
   json_text progress (binary_data offset) ranges = []

@@ -6,6 +6,7 @@ pub mod CountedTexts
 pub mod FormatEnds
 pub mod Formats
 pub mod HyperlinkFormats
+pub mod Hyperlinks
 pub mod JsonEnds
 pub mod JsonLaws
 pub mod JsonMessages
@@ -13,6 +14,7 @@ pub mod JsonPieces
 pub mod JsonTexts
 pub mod LinePlaces
 pub mod LineTexts
+pub mod LinkedFields
 pub mod MatchedParts
 pub mod PartErrors
 pub mod PartTexts

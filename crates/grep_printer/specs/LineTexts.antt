@@ -14,6 +14,8 @@ use Rattle.grep_matcher.specs.Lines.{byte_of}
 use Rattle.grep_searcher.specs.Lines.{strip}
 use Rattle.grep_printer.specs.ColoredTexts.{colored, column_color, highlight_color, line_color}
 use Rattle.grep_printer.specs.ColoredTexts.{matched_color, painted, path_color, reaches}
+use Rattle.grep_printer.specs.Hyperlinks.{link_end, link_start, linked_path, path_within}
+use Rattle.grep_printer.specs.Hyperlinks.{prefix_link, shown_path}
 use Rattle.grep_printer.specs.declared.config.Config.{Config}
 use Rattle.grep_printer.specs.declared.config.SearchSeparator.{SearchSeparator}
 use Rattle.grep_printer.specs.declared.config.SearchSeparator.TheVariants.{Nothing, Blank, Groups}
@@ -21,6 +23,8 @@ use Rattle.grep_printer.specs.declared.fields.Layout.{Layout}
 use Rattle.grep_printer.specs.declared.fields.LineKind.{LineKind}
 use Rattle.grep_printer.specs.declared.fields.LineKind.TheVariants.{Match, Context}
 use Rattle.grep_printer.specs.declared.fields.Place.{Place}
+use Rattle.grep_printer.specs.declared.hyperlinks.Hyperlink.{Hyperlink}
+use Rattle.grep_printer.specs.declared.hyperlinks.PrinterPath.{PrinterPath}
 use Rattle.grep_printer.specs.declared.separators.Separators.{Separators}
 
 -- a number, in a color if there is one, and a mark, if there is a number
@@ -28,10 +32,25 @@ abbrev pub number_field : Option (List ℕ) → List ℕ → Option ℕ → List
 number_field color mark None = []
 number_field color mark (Some number) = colored color (decimal number) ++ mark
 
--- a path, in a color if there is one, and a mark, if there is a path
-abbrev pub path_field : Option (List ℕ) → List ℕ → Option (Bor (List ℕ)) → List ℕ
+-- a text, in a color if there is one, and a mark, if there is a text
+abbrev pub text_field : Option (List ℕ) → List ℕ → Option (Bor (List ℕ)) → List ℕ
+text_field color mark None = []
+text_field color mark (Some text) = colored color text.now ++ mark
+
+-- a path, in a color if there is one and as a link if it has one, and a mark, if there is a path
+abbrev pub path_field : Option (List ℕ) → List ℕ → Option PrinterPath → List ℕ
 path_field color mark None = []
-path_field color mark (Some path) = colored color path.now ++ mark
+path_field color mark (Some path) = linked_path color path ++ mark
+
+-- a number after a mark, in a color if there is one, if there is a number
+abbrev pub next_number_field : Option (List ℕ) → List ℕ → Option ℕ → List ℕ
+next_number_field color before None = []
+next_number_field color before (Some number) = before ++ colored color (decimal number)
+
+-- the mark that comes after a number, or the one that has come before it if there is no number
+abbrev pub next_mark : List ℕ → List ℕ → Option ℕ → List ℕ
+next_mark before mark None = before
+next_mark before mark (Some number) = mark
 
 -- the mark after the path before a line, unless a byte comes in its place
 abbrev pub mark_after : Option ℕ → List ℕ → List ℕ
@@ -63,10 +82,11 @@ place_after place line = record {
 }
 
 -- lines, or parts in their place, are written as they are, each after its number alone: there is no
--- other field, no limit, no color and no trimming, and the separators are the usual ones
-abbrev pub is_plain : Config → Option (Bor (List ℕ)) → Bool
+-- other field, no link, no limit, no color and no trimming, and the separators are the usual ones
+abbrev pub is_plain : Config → Option PrinterPath → Bool
 is_plain config path =
-    (config.heading || is_none path) && not config.column && not config.byte_offset
+    (config.heading || is_none path) && is_none (prefix_link config.heading path)
+    && not config.column && not config.byte_offset
     && is_none config.max_columns && is_none (line_color config.color_specs)
     && is_none (matched_color config.color_specs) && not config.trim_ascii
     && is_none config.separators
@@ -173,18 +193,55 @@ abbrev pub end_byte : Layout → ℕ
 end_byte layout = byte_of layout.terminator
 
 module _ (layout : Layout) where
+  -- the column that is written before a line
+  abbrev pub shown_column : Place → Option ℕ
+  shown_column place = if layout.config.column then place.column else None
+
+  -- the offset that is written before a line
+  abbrev pub shown_offset : Place → Option ℕ
+  shown_offset place = if layout.config.byte_offset then Some place.offset else None
+
   -- the fields before a line, each with a mark after it: the path, the number, the column and the
   -- offset. A path that is written as a heading isn't among them
-  abbrev pub fields : LineKind → Place → List ℕ
-  fields kind place =
+  abbrev pub marked_fields : LineKind → Place → List ℕ
+  marked_fields kind place =
       let mark = mark_of layout.config.separators kind in
       (if layout.config.heading then []
-      else path_field (path_color layout.config.color_specs)
-      (mark_after layout.config.path_terminator mark) layout.path)
+      else text_field (path_color layout.config.color_specs)
+      (mark_after layout.config.path_terminator mark) (shown_path layout.path))
       ++ (number_field (line_color layout.config.color_specs) mark place.number
-      ++ (number_field (column_color layout.config.color_specs) mark place.column
-      ++ number_field (column_color layout.config.color_specs) mark
-      (if layout.config.byte_offset then Some place.offset else None)))
+      ++ (number_field (column_color layout.config.color_specs) mark (shown_column place)
+      ++ number_field (column_color layout.config.color_specs) mark (shown_offset place)))
+
+  -- what comes after the path before a line; nothing does, if the path is written as a heading
+  abbrev pub path_mark : List ℕ → List ℕ
+  path_mark mark =
+      if layout.config.heading then [] else mark_after layout.config.path_terminator mark
+
+  -- the same fields as a link to the line. Each mark comes between two fields, and the last one
+  -- after the link
+  abbrev pub linked_fields : Hyperlink → LineKind → Place → List ℕ
+  linked_fields link kind place =
+      let mark = mark_of layout.config.separators kind in
+      let first = path_mark mark in
+      let second = next_mark first mark place.number in
+      let third = next_mark second mark (shown_column place) in
+      let last = next_mark third mark (shown_offset place) in
+      link_start link place.number place.column
+      ++ ((if layout.config.heading then []
+      else path_within (path_color layout.config.color_specs) layout.path)
+      ++ (next_number_field (line_color layout.config.color_specs) first place.number
+      ++ (next_number_field (column_color layout.config.color_specs) second (shown_column place)
+      ++ (next_number_field (column_color layout.config.color_specs) third (shown_offset place)
+      ++ (link_end ++ last)))))
+
+  -- the fields before a line, as a link if they have one
+  abbrev pub fields_with : Option Hyperlink → LineKind → Place → List ℕ
+  fields_with None kind place = marked_fields kind place
+  fields_with (Some link) kind place = linked_fields link kind place
+
+  abbrev pub fields : LineKind → Place → List ℕ
+  fields kind place = fields_with (prefix_link layout.config.heading layout.path) kind place
 
   -- the highlight of a line. A line of a match has it if a part reaches into it, or begins after
   -- its start

@@ -26,21 +26,22 @@ is_in_span span part =
     nat_lt (max part.0 span.start) (min part.1 span.end)
     || (part.0 == part.1 && (nat_le span.start part.0 && nat_lt part.0 span.next))
 
+-- the place of a part, by the offset of its report: the number of its line, and its own column and
+-- offset
+abbrev pub part_place : ℕ → Option ℕ → ℕ × ℕ → Place
+part_place offset number part = record {
+  number = number;
+  column = Some (part.0 + 1);
+  offset = offset + part.0;
+  start = part.0;
+}
+
 -- By the layout of the lines, what they belong to, and the bytes of the report with their offset.
 module _ (layout : Layout) (kind : LineKind) (offset : ℕ) (bytes : List ℕ) where
-  -- the place of a part: the number of its line, and its own column and offset
-  abbrev pub part_place : Option ℕ → ℕ × ℕ → Place
-  part_place number part = record {
-    number = number;
-    column = if layout.config.column then Some (part.0 + 1) else None;
-    offset = offset + part.0;
-    start = part.0;
-  }
-
   -- a part in a line of its own
   abbrev pub part_text : Option ℕ → ℕ × ℕ → List ℕ
   part_text number part =
-      line_text layout kind (part_place number part) (part ∷ [])
+      line_text layout kind (part_place offset number part) (part ∷ [])
       (slice_range bytes part.0 part.1)
 
   -- each part in a line of its own, with the same number
@@ -53,7 +54,7 @@ module _ (layout : Layout) (kind : LineKind) (offset : ℕ) (bytes : List ℕ) w
   clipped_text number span part =
       if is_in_span span part
       then line_text layout kind
-      (record (part_place number part) { start = max part.0 span.start }) (part ∷ [])
+      (record (part_place offset number part) { start = max part.0 span.start }) (part ∷ [])
       (slice_range bytes (max part.0 span.start)
       (max (max part.0 span.start) (min part.1 span.end)))
       else []
@@ -66,12 +67,12 @@ module _ (layout : Layout) (kind : LineKind) (offset : ℕ) (bytes : List ℕ) w
       flat_map (clipped_text number (line_span layout.terminator start line)) parts
       ++ across_text (next_number number) (start + length line) later parts
 
-module _ (layout : Layout) where
-  -- the column of the first part, counted from 1, if columns are written and there is a part
-  abbrev pub column_of : List (ℕ × ℕ) → Option ℕ
-  column_of [] = None
-  column_of (part ∷ later) = if layout.config.column then Some (part.0 + 1) else None
+-- the column of the first part, counted from 1, if there is a part
+abbrev pub column_of : List (ℕ × ℕ) → Option ℕ
+column_of [] = None
+column_of (part ∷ later) = Some (part.0 + 1)
 
+module _ (layout : Layout) where
   -- whether the parts of a report are written in place of its lines
   abbrev pub writes_parts : List (ℕ × ℕ) → Bool
   writes_parts parts = layout.config.only_matching && not (length parts == 0)

@@ -1,7 +1,6 @@
 -- What a search of a source writes, by a printer of any format.
 use Rattle.std.specs.Prelude.{◌≡◌, ℕ, Bool, true, false, MatchBool, List, length, Option, None, Result}
 use Rattle.std.specs.Prelude.{Ok, Err}
-use Rattle.std.specs.Borrow.{Bor}
 use Rattle.std.specs.Global.{Global}
 use Rattle.std.specs.declared.io.Error.{Error}
 use Rattle.grep_output.specs.Outputs.{OutputCall}
@@ -22,6 +21,7 @@ use Rattle.grep_printer.specs.Formats.{AllGoOn, AreAlong, PrintedCall, Rules}
 use Rattle.grep_printer.specs.Formats.{goes_on_after_each}
 use Rattle.grep_printer.specs.PrinterSteps.{FailsAlongPlan, HasFound, KeepsNoMore, PrintsAll}
 use Rattle.grep_printer.specs.PrinterSteps.{IsSameSink, PrintsCall, scene_of}
+use Rattle.grep_printer.specs.declared.hyperlinks.PrinterPath.{PrinterPath}
 use Rattle.grep_printer.specs.declared.printed_search.Searched.{Searched}
 use Rattle.grep_printer.specs.declared.printer.Printer.{Printer}
 use Rattle.grep_printer.specs.declared.printer.PrinterSink.{PrinterSink}
@@ -36,7 +36,7 @@ search_errors output = makers_of output (record {
 
 -- the sink that a printer gives for a writer and a search with a matcher, and a path if there is one
 pub record IsSinkFor {F M W : Type 0} (rules : Rules F) (printer : Printer F) (writer : W)
-    (matcher : M) (path : Option (Bor (List ℕ))) (sink : PrinterSink F M W) : Type 0 where
+    (matcher : M) (path : Option PrinterPath) (sink : PrinterSink F M W) : Type 0 where
   pub is_of : sink.printer.now ≡ printer
   pub writes_to : sink.writer.now ≡ writer
   pub asks : sink.matcher ≡ matcher
@@ -173,7 +173,7 @@ module _ {F M W E : Type 0} (rules : Rules F) (output : E → Option (List ℕ))
 
     -- a printer has printed what a search of a source reports to its sink, and says whether the
     -- search found what it is for
-    pub record IsPrintedBy (matcher : M) (path : Option (Bor (List ℕ))) (reader : R) (writer : W)
+    pub record IsPrintedBy (matcher : M) (path : Option PrinterPath) (reader : R) (writer : W)
         (old : Printer F) (searched : Searched) (reader' : R) (writer' : W) (new : Printer F)
         : Type 0 where
       pub begun : PrinterSink F M W

@@ -96,23 +96,23 @@ abbrev pub event_has_match : Event → Bool → Bool
 event_has_match (report_event report) is_inverted = kind_has_match report.kind is_inverted
 event_has_match event is_inverted = false
 
-module _ (layout : Layout) (report : Report) (parts : List (ℕ × ℕ)) where
-  -- the place of a report, with the column of its first part
-  abbrev pub report_place : Place
-  report_place = record {
-    number = report.number;
-    column = column_of layout parts;
-    offset = report.offset;
-    start = 0;
-  }
+-- the place of a report, with the column of its first part
+abbrev pub report_place : Report → List (ℕ × ℕ) → Place
+report_place report parts = record {
+  number = report.number;
+  column = column_of parts;
+  offset = report.offset;
+  start = 0;
+}
 
+module _ (layout : Layout) (report : Report) (parts : List (ℕ × ℕ)) where
   -- a report without its parts: the lines of a match, or the line that isn't one
   abbrev pub whole_text : ReportKind → List ℕ
   whole_text Match =
-      lines_text layout match_line report_place parts
+      lines_text layout match_line (report_place report parts) parts
       (lines (end_byte layout) report.bytes.now)
   whole_text (Context kind) =
-      line_text layout context_line report_place parts report.bytes.now
+      line_text layout context_line (report_place report parts) parts report.bytes.now
 
 -- a report is a match of one line that has its terminator, into which no part reaches
 pub record HasPlainParts (terminator : LineTerminator) (report : Report) (parts : List (ℕ × ℕ))

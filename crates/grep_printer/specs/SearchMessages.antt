@@ -16,6 +16,7 @@ use Rattle.grep_searcher.specs.Searches.{BinaryPoint, plan_with}
 use Rattle.grep_searcher.specs.declared.BinaryDetection.{BinaryDetection}
 use Rattle.grep_printer.specs.CallParts.{HasParts}
 use Rattle.grep_printer.specs.Formats.{PrintedCall, Scene, printed_by}
+use Rattle.grep_printer.specs.Hyperlinks.{shown_path}
 use Rattle.grep_printer.specs.JsonLaws.{IsLineOf, IsSameReport, IsWordRange, Reported}
 use Rattle.grep_printer.specs.JsonLaws.{message_of_report}
 use Rattle.grep_printer.specs.JsonMessages.{begin_json, json_line}
@@ -114,8 +115,8 @@ module _ {R : Type 0} (text_at : R → TextAt) where
   abbrev pub SearchesAreReadBack : Type 0
   SearchesAreReadBack =
       (format : JsonFormat R) (scene : Scene) (calls : List PrintedCall) → All HasPrintedWords calls
-      → AreReadBack (messages_of format.always_begin_end scene.path (texts_of format scene)
-      format.progress.is_begun calls) (printed_by (json_rules text_at) scene format calls).text
+      → AreReadBack (messages_of format.always_begin_end (shown_path scene.path)
+      (texts_of format scene) format.progress.is_begun calls) (printed_by (json_rules text_at) scene format calls).text
 
   -- the text of a search tells its reports: any search with this text has the same reports
   abbrev pub SearchesTell : Type 0
@@ -124,5 +125,5 @@ module _ {R : Type 0} (text_at : R → TextAt) where
       → All HasPrintedWords calls → All HasPrintedWords others
       → (printed_by (json_rules text_at) scene format calls).text
       ≡ (printed_by (json_rules text_at) another other others).text
-      → AllZip IsSameReport (reports_of scene.path (texts_of format scene) calls)
-      (reports_of another.path (texts_of other another) others)
+      → AllZip IsSameReport (reports_of (shown_path scene.path) (texts_of format scene) calls)
+      (reports_of (shown_path another.path) (texts_of other another) others)

@@ -2,7 +2,6 @@
 use Rattle.std.specs.Prelude.{ℕ, Bool, true, false, not, ◌&&◌, ◌||◌, if◌then◌else◌}
 use Rattle.std.specs.Prelude.{List, [], ◌++◌, codes, decimal, Option, Some, None}
 use Rattle.std.specs.Prelude.{is_some}
-use Rattle.std.specs.Borrow.{Bor}
 use Rattle.grep_searcher.specs.Plans.{Call, begins, matches, context, breaks, binary_data}
 use Rattle.grep_searcher.specs.Plans.{finishes}
 use Rattle.grep_searcher.specs.BinaryDetections.{convert_byte_of}
@@ -10,14 +9,16 @@ use Rattle.grep_searcher.specs.declared.BinaryDetection.{BinaryDetection}
 use Rattle.grep_searcher.specs.declared.BinaryDetection.TheVariants.{None as no_detection, Quit}
 use Rattle.grep_searcher.specs.declared.BinaryDetection.TheVariants.{Convert}
 use Rattle.grep_printer.specs.BareTexts.{is_bare}
-use Rattle.grep_printer.specs.ColoredTexts.{colored, matched_color, path_color}
+use Rattle.grep_printer.specs.ColoredTexts.{matched_color, path_color}
 use Rattle.grep_printer.specs.Formats.{Rules, Scene}
+use Rattle.grep_printer.specs.Hyperlinks.{linked_path}
 use Rattle.grep_printer.specs.LineTexts.{break_text, end_byte, opening_text}
 use Rattle.grep_printer.specs.PartTexts.{context_text, match_text}
 use Rattle.grep_printer.specs.declared.colors.ColorSpecs.TheVariants.{Plain}
 use Rattle.grep_printer.specs.declared.config.Config.{Config}
 use Rattle.grep_printer.specs.declared.config.SearchSeparator.TheVariants.{Nothing}
 use Rattle.grep_printer.specs.declared.fields.Layout.{Layout}
+use Rattle.grep_printer.specs.declared.hyperlinks.PrinterPath.{PrinterPath}
 use Rattle.grep_printer.specs.declared.standard.Progress.{Progress}
 use Rattle.grep_printer.specs.declared.standard.StandardFormat.{StandardFormat}
 
@@ -43,15 +44,15 @@ abbrev pub new_progress : Bool → Progress
 new_progress follows =
     record { follows = follows; has_match = false; is_open = false; binary = None }
 
--- a path before a message, in a color if there is one, if there is a path
-abbrev pub path_prefix : Option (List ℕ) → Option (Bor (List ℕ)) → List ℕ
+-- a path before a message, in a color if there is one and as a link if it has one, if there is a
+-- path
+abbrev pub path_prefix : Option (List ℕ) → Option PrinterPath → List ℕ
 path_prefix color None = []
-path_prefix color (Some path) = colored color path.now ++ codes ": "
+path_prefix color (Some path) = linked_path color path ++ codes ": "
 
 -- what is written after a search that found a match, and a NUL at an offset, by the color of paths
 -- and by what the search does about a NUL
-abbrev pub binary_message : Option (List ℕ) → BinaryDetection → Option (Bor (List ℕ)) → ℕ
-    → List ℕ
+abbrev pub binary_message : Option (List ℕ) → BinaryDetection → Option PrinterPath → ℕ → List ℕ
 binary_message color no_detection path offset = []
 binary_message color (Quit byte) path offset =
     path_prefix color path
@@ -63,8 +64,8 @@ binary_message color (Convert byte) path offset =
     ++ (decimal offset ++ codes ")\n"))
 
 -- the message about a binary byte, if the search found one
-abbrev pub message_text : Option (List ℕ) → BinaryDetection → Option (Bor (List ℕ))
-    → Option ℕ → List ℕ
+abbrev pub message_text : Option (List ℕ) → BinaryDetection → Option PrinterPath → Option ℕ
+    → List ℕ
 message_text color detection path None = []
 message_text color detection path (Some offset) = binary_message color detection path offset
 

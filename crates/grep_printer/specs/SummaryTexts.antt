@@ -1,7 +1,6 @@
 -- The text that a printer of summaries writes for a search.
 use Rattle.std.specs.Prelude.{ℕ, nat_lt, Bool, true, false, ◌==◌, if◌then◌else◌, List, [], ◌∷◌}
 use Rattle.std.specs.Prelude.{◌++◌, decimal, length, max, Option, None, is_some, not, ◌&&◌, ◌||◌}
-use Rattle.std.specs.Borrow.{Bor}
 use Rattle.std.specs.Option.{unwrap_or}
 use Rattle.grep_matcher.specs.Lines.{byte_of}
 use Rattle.grep_searcher.specs.BinaryDetections.{quit_byte_of}
@@ -13,6 +12,7 @@ use Rattle.grep_printer.specs.Formats.{Rules, Scene}
 use Rattle.grep_printer.specs.LineTexts.{path_field}
 use Rattle.grep_printer.specs.StatsSums.{capped_sum}
 use Rattle.grep_printer.specs.declared.colors.ColorSpecs.TheVariants.{Plain}
+use Rattle.grep_printer.specs.declared.hyperlinks.PrinterPath.{PrinterPath}
 use Rattle.grep_printer.specs.declared.summary.Counts.{Counts}
 use Rattle.grep_printer.specs.declared.summary.SummaryFormat.{SummaryFormat}
 use Rattle.grep_printer.specs.declared.summary_builder.SummaryConfig.{SummaryConfig}
@@ -46,13 +46,13 @@ with_matches counts count parts = record {
 }
 
 -- a count in a line of its own, after the path if there is one
-abbrev pub count_line : SummaryConfig → Option (Bor (List ℕ)) → ℕ → ℕ → List ℕ
+abbrev pub count_line : SummaryConfig → Option PrinterPath → ℕ → ℕ → List ℕ
 count_line config path terminator count =
     path_field (path_color config.color_specs) (unwrap_or config.path_terminator 58 ∷ []) path
     ++ (decimal count ++ terminator ∷ [])
 
 -- a path in a line of its own, if there is one
-abbrev pub path_line : SummaryConfig → Option (Bor (List ℕ)) → ℕ → List ℕ
+abbrev pub path_line : SummaryConfig → Option PrinterPath → ℕ → List ℕ
 path_line config path terminator =
     path_field (path_color config.color_specs) (unwrap_or config.path_terminator terminator ∷ []) path
 
@@ -79,7 +79,7 @@ is_written kind count exclude_zero =
     has_found kind count || (counts_on kind && not exclude_zero)
 
 -- what is written of a search that found what it is for, by its counts
-abbrev pub found_line : SummaryKind → SummaryConfig → Option (Bor (List ℕ)) → ℕ → Counts → List ℕ
+abbrev pub found_line : SummaryKind → SummaryConfig → Option PrinterPath → ℕ → Counts → List ℕ
 found_line Count config path terminator counts =
     count_line config path terminator counts.match_count
 found_line CountMatches config path terminator counts =
@@ -89,7 +89,7 @@ found_line PathWithoutMatch config path terminator counts = path_line config pat
 found_line Quiet config path terminator counts = []
 
 -- what is written when a search has ended, by its counts
-abbrev pub finish_text : SummaryKind → SummaryConfig → Option (Bor (List ℕ)) → ℕ → Counts
+abbrev pub finish_text : SummaryKind → SummaryConfig → Option PrinterPath → ℕ → Counts
     → List ℕ
 finish_text kind config path terminator counts =
     if is_written kind counts.match_count config.exclude_zero

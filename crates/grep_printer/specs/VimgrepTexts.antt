@@ -1,8 +1,7 @@
 -- The text that a printer in the form of Vim's quickfix list writes: of each part of a report that
 -- matches the line in which it starts.
 use Rattle.std.specs.Prelude.{ℕ, ◌+◌, ◌-◌, true, false, if◌then◌else◌, List, [], ◌∷◌, ◌++◌}
-use Rattle.std.specs.Prelude.{Option, slice_range}
-use Rattle.std.specs.Bool.{then_some}
+use Rattle.std.specs.Prelude.{Option, Some, slice_range}
 use Rattle.std.specs.List.{flat_map}
 use Rattle.grep_lines.specs.Blocks.{block_end, block_start, lines_before}
 use Rattle.grep_searcher.specs.Plans.{Call, matches, context}
@@ -23,15 +22,14 @@ vimgrep_config config = record config { heading = false; only_matching = false }
 
 -- By the layout of the lines, what they belong to, and a report.
 module _ (layout : Layout) (kind : LineKind) (offset : ℕ) (bytes : List ℕ) where
-  -- the line in which a part starts, after the line's number, the column of the part in it if
-  -- columns are written, and the part's offset
+  -- the line in which a part starts, with the line's number, the column of the part in it, and the
+  -- part's offset
   abbrev pub part_line : Option ℕ → ℕ × ℕ → List ℕ
   part_line number part =
       line_text layout kind
       (record {
         number = number;
-        column = then_some layout.config.column
-            (part.0 - block_start (end_byte layout) bytes (part.0, part.0) + 1);
+        column = Some (part.0 - block_start (end_byte layout) bytes (part.0, part.0) + 1);
         offset = offset + part.0;
         start = block_start (end_byte layout) bytes (part.0, part.0);
       })

@@ -12,6 +12,7 @@ ghost use Rattle.grep_printer.specs.Reports.{event_call};
 use crate::config::{Config, SearchSeparator};
 use crate::fields::next_number;
 use crate::format::Event;
+use crate::hyperlinks::PrinterPath;
 use crate::report::ReportKind;
 use grep_output::{Output, write_all, write_number};
 use grep_searcher::{LineIter, Searcher};
@@ -24,10 +25,10 @@ impl<'c> Config<'c> {
     pub(crate) fn is_bare<A: Allocator + Copy>(
         &self,
         searcher: &Searcher<A>,
-        path: Option<&str>,
+        path: &Option<PrinterPath<'_>>,
     ) -> bool
         ensures { result ≡ is_bare self.now
-            (record { path = path.entry; settings = searcher.now.settings }) }
+            (record { path = path.now; settings = searcher.now.settings }) }
     {
         let detection = searcher.binary_detection();
         self.is_plain(path)

@@ -4,7 +4,8 @@ ghost use Rattle.grep_printer.specs.ColoredTexts.{color_of, path_color};
 ghost use Rattle.grep_output.specs.PendingTexts.{Adds};
 ghost use Rattle.grep_printer.specs.StandardTexts.{binary_message, message_text, path_prefix};
 
-use crate::colors::{ColorSpecs, push_colored};
+use crate::colors::ColorSpecs;
+use crate::hyperlinks::{PrinterPath, push_linked_path};
 use grep_output::Pending;
 use grep_searcher::BinaryDetection;
 
@@ -19,11 +20,11 @@ pub(crate) fn push_binary_message(
     text: &mut Pending,
     colors: &ColorSpecs<'_>,
     detection: &BinaryDetection,
-    path: Option<&str>,
+    path: &Option<PrinterPath<'_>>,
     offset: Option<u64>,
 )
     ensures { Adds text.old text.new
-        (message_text (path_color colors.now) detection.now path.entry offset) }
+        (message_text (path_color colors.now) detection.now path.now offset) }
 {
     if let Some(offset) = offset {
         push_binary(text, colors.path(), detection, path, offset);
@@ -35,11 +36,11 @@ fn push_binary(
     text: &mut Pending,
     color: Option<&str>,
     detection: &BinaryDetection,
-    path: Option<&str>,
+    path: &Option<PrinterPath<'_>>,
     offset: u64,
 )
     ensures { Adds text.old text.new (binary_message (color_of color.entry) detection.now
-        path.entry offset) }
+        path.now offset) }
 {
     match detection {
         BinaryDetection::None => {}
@@ -52,11 +53,11 @@ fn push_binary(
 fn push_message(
     text: &mut Pending,
     color: Option<&str>,
-    path: Option<&str>,
+    path: &Option<PrinterPath<'_>>,
     message: &str,
     offset: u64,
 )
-    ensures { Adds text.old text.new (path_prefix (color_of color.entry) path.entry
+    ensures { Adds text.old text.new (path_prefix (color_of color.entry) path.now
         ++ (message.now ++ (decimal offset ++ codes ")\n"))) }
 {
     push_prefix(text, color, path);
@@ -65,13 +66,14 @@ fn push_message(
     text.push(b"\n")
 }
 
-// Pushes a path before a message, in a color if there is one, if there is a path.
-fn push_prefix(text: &mut Pending, color: Option<&str>, path: Option<&str>)
-    ensures { Adds text.old text.new (path_prefix (color_of color.entry) path.entry) }
+// Pushes a path before a message, in a color if there is one and as a link if it has one, if there
+// is a path.
+fn push_prefix(text: &mut Pending, color: Option<&str>, path: &Option<PrinterPath<'_>>)
+    ensures { Adds text.old text.new (path_prefix (color_of color.entry) path.now) }
 {
     match path {
         Some(path) => {
-            push_colored(text, color, path.as_bytes());
+            push_linked_path(text, color, path);
             text.push(b": ")
         }
         None => {}

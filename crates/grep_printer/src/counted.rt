@@ -7,6 +7,7 @@ ghost use Rattle.grep_printer.specs.Reports.{event_call};
 ghost use Rattle.grep_printer.specs.StatsSums.{nanos_of, no_stats};
 
 use crate::format::{Event, Format};
+use crate::hyperlinks::PrinterPath;
 use crate::printer::{Printer, PrinterSink};
 use crate::report::ReportKind;
 use crate::stats::{Stats, nanoseconds};
@@ -145,7 +146,11 @@ impl<F: Format> Format for CountedFormat<F> {
         self.format.has_match()
     }
 
-    fn is_bare<A: Allocator + Copy>(&self, searcher: &Searcher<A>, path: Option<&str>) -> bool {
+    fn is_bare<A: Allocator + Copy>(
+        &self,
+        searcher: &Searcher<A>,
+        path: &Option<PrinterPath<'_>>,
+    ) -> bool {
         !self.is_counting && self.format.is_bare(searcher, path)
     }
 
@@ -154,7 +159,7 @@ impl<F: Format> Format for CountedFormat<F> {
         &mut self,
         text: &mut Pending,
         searcher: &Searcher<A>,
-        path: Option<&str>,
+        path: &Option<PrinterPath<'_>>,
         event: &Event<'_>,
         parts: &[Match],
     ) -> bool {
@@ -172,7 +177,7 @@ impl<F: Format> Format for CountedFormat<F> {
         &mut self,
         text: &mut Pending,
         searcher: &Searcher<A>,
-        path: Option<&str>,
+        path: &Option<PrinterPath<'_>>,
         lines: &SinkMatch<'_>,
     ) -> bool {
         if self.is_counting {
@@ -185,7 +190,7 @@ impl<F: Format> Format for CountedFormat<F> {
         &mut self,
         out: &mut TextWriter<'_, W>,
         searcher: &Searcher<A>,
-        path: Option<&str>,
+        path: &Option<PrinterPath<'_>>,
         event: &Event<'_>,
         parts: &[Match],
     ) -> Option<Result<bool, TextError>> {

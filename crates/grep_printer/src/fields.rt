@@ -1,6 +1,6 @@
 //! Lines, and the fields before them.
 ghost use Rattle.std.specs.Prelude.{◌≡◌, ◌+◌, ◌<◌, ◌≤◌, ◌^◌, ◌∷◌, ◌++◌, [], decimal, length};
-ghost use Rattle.std.specs.Prelude.{take};
+ghost use Rattle.std.specs.Prelude.{IfSome, take};
 ghost use Rattle.std.specs.List.{count_by, list_any, prefix_len};
 ghost use Rattle.std.specs.Option.{unwrap_or};
 ghost use Rattle.grep_matcher.specs.Lines.{byte_of};
@@ -14,6 +14,10 @@ ghost use Rattle.grep_printer.specs.LineTexts.{indentation, is_long, is_space, i
 ghost use Rattle.grep_printer.specs.LineTexts.{line_text};
 ghost use Rattle.grep_printer.specs.LineTexts.{lines_text, mark_after, mark_of, missing_end, notice};
 ghost use Rattle.grep_printer.specs.LineTexts.{next_number, number_field, opening_text};
+ghost use Rattle.grep_printer.specs.LineTexts.{linked_fields, marked_fields, next_mark};
+ghost use Rattle.grep_printer.specs.LineTexts.{next_number_field, path_mark, shown_column};
+ghost use Rattle.grep_printer.specs.Hyperlinks.{shown_path};
+ghost use Rattle.grep_printer.specs.LineTexts.{shown_offset, text_field};
 ghost use Rattle.grep_printer.specs.LineTexts.{painted_line, path_field, place_after};
 ghost use Rattle.grep_printer.specs.LineTexts.{separator_text};
 ghost use Rattle.grep_printer.specs.MatchedParts.{AreInOrder};
@@ -21,6 +25,10 @@ ghost use Rattle.grep_output.specs.PendingTexts.{Adds};
 
 use crate::colors::{push_colored, push_in_colors};
 use crate::config::{Config, SearchSeparator};
+use crate::hyperlinks::{
+    Hyperlink, PrinterPath, prefix_link, push_link_end, push_linked_path, push_path_within,
+    shown_path,
+};
 use crate::parts::parts_after;
 use crate::separators::Separators;
 use bstr::ByteSlice;
@@ -52,7 +60,7 @@ pub(crate) enum LineKind {
 #[derive(Clone, Copy)]
 pub(crate) struct Layout<'c, 'p> {
     pub(crate) config: Config<'c>,
-    pub(crate) path: Option<&'p str>,
+    pub(crate) path: Option<PrinterPath<'p>>,
     pub(crate) terminator: LineTerminator,
 }
 
@@ -71,7 +79,7 @@ impl<'c, 'p> Layout<'c, 'p> {
             .config
             .path_terminator
             .unwrap_or(self.terminator.as_byte());
-        push_path(text, self.config.color_specs.path(), self.path, &[mark])
+        push_path(text, self.config.color_specs.path(), &self.path, &[mark])
     }
 
     // Pushes what is written between two searches.
@@ -260,9 +268,21 @@ impl<'c, 'p> Layout<'c, 'p> {
         }
     }
 
-    // Pushes the fields before a line.
+    // Pushes the fields before a line, as a link if they have one.
+    #[inline(always)]
     fn push_fields(&self, text: &mut Pending, kind: LineKind, place: &Place)
         ensures { Adds text.old text.new (fields self.now kind place.now) }
+    {
+        match prefix_link(self.config.heading, &self.path) {
+            None => self.push_marked_fields(text, kind, place),
+            Some(link) => self.push_linked_fields(text, &link, kind, place),
+        }
+    }
+
+    // Pushes the fields before a line, each with a mark after it.
+    #[inline(always)]
+    fn push_marked_fields(&self, text: &mut Pending, kind: LineKind, place: &Place)
+        ensures { Adds text.old text.new (marked_fields self.now kind place.now) }
     {
         let colors = &self.config.color_specs;
         let mark = self.mark(kind);
@@ -270,9 +290,75 @@ impl<'c, 'p> Layout<'c, 'p> {
             self.push_path(text, mark);
         }
         push_number(text, colors.line(), place.number, mark);
-        push_number(text, colors.column(), place.column, mark);
+        push_number(text, colors.column(), self.shown_column(place), mark);
+        push_number(text, colors.column(), self.shown_offset(place), mark);
+    }
+
+    // Pushes the fields before a line as a link. The last mark comes after the link.
+    #[inline(never)]
+    fn push_linked_fields(
+        &self,
+        text: &mut Pending,
+        link: &Hyperlink<'_>,
+        kind: LineKind,
+        place: &Place,
+    )
+        ensures { Adds text.old text.new (linked_fields self.now link.now kind place.now) }
+    {
+        let colors = &self.config.color_specs;
+        let (column, offset) = (self.shown_column(place), self.shown_offset(place));
+        link.push_start(text, place.number, place.column);
+        if !self.config.heading {
+            push_path_within(text, colors.path(), &self.path);
+        }
+        let end = [self.config.path_terminator.unwrap_or(0)];
+        let mark = self.mark(kind);
+        let first = self.path_mark(mark, &end);
+        push_next_number(text, colors.line(), first, place.number);
+        let second = next_mark(first, mark, place.number);
+        push_next_number(text, colors.column(), second, column);
+        let third = next_mark(second, mark, column);
+        push_next_number(text, colors.column(), third, offset);
+        push_link_end(text);
+        text.push(next_mark(third, mark, offset))
+    }
+
+    // What comes after the path before a line: a mark, or the end that stands in its place. After a
+    // heading nothing does.
+    fn path_mark<'m>(&self, mark: &'m [u8], end: &'m [u8]) -> &'m [u8]
+        requires { IfSome self.now.config.path_terminator (λ byte. end.now ≡ byte ∷ []) }
+        ensures { result.now ≡ path_mark self.now mark.now }
+    {
+        if self.config.heading {
+            return b"";
+        }
+        match self.config.path_terminator {
+            Some(_) => end,
+            None => mark,
+        }
+    }
+
+    // The column that is written before a line.
+    #[inline(always)]
+    fn shown_column(&self, place: &Place) -> Option<u64>
+        ensures { result ≡ shown_column self.now place.now }
+    {
+        if self.config.column {
+            place.column
+        } else {
+            None
+        }
+    }
+
+    // The offset that is written before a line.
+    #[inline(always)]
+    fn shown_offset(&self, place: &Place) -> Option<u64>
+        ensures { result ≡ shown_offset self.now place.now }
+    {
         if self.config.byte_offset {
-            push_number(text, colors.column(), Some(place.offset), mark);
+            Some(place.offset)
+        } else {
+            None
         }
     }
 
@@ -288,15 +374,17 @@ impl<'c, 'p> Layout<'c, 'p> {
         }
     }
 
-    // Pushes the path before a line, with a text after it unless a byte comes in its place.
+    // Pushes the path before a line, which is no link, with a text after it unless a byte comes in
+    // its place.
     fn push_path(&self, text: &mut Pending, mark: &[u8])
-        ensures { Adds text.old text.new (path_field (path_color self.now.config.color_specs)
-            (mark_after self.now.config.path_terminator mark.now) self.now.path) }
+        ensures { Adds text.old text.new (text_field (path_color self.now.config.color_specs)
+            (mark_after self.now.config.path_terminator mark.now) (shown_path self.now.path)) }
     {
         let color = self.config.color_specs.path();
+        let path = shown_path(&self.path);
         match self.config.path_terminator {
-            Some(end) => push_path(text, color, self.path, &[end]),
-            None => push_path(text, color, self.path, mark),
+            Some(end) => push_text(text, color, path, &[end]),
+            None => push_text(text, color, path, mark),
         }
     }
 }
@@ -326,13 +414,53 @@ fn push_digits(text: &mut Pending, color: Option<&str>, number: u64, mark: &[u8]
     text.push(mark)
 }
 
-// Pushes a path, in a color if there is one, and a mark, if there is a path.
-pub(crate) fn push_path(text: &mut Pending, color: Option<&str>, path: Option<&str>, mark: &[u8])
-    ensures { Adds text.old text.new (path_field (color_of color.entry) mark.now path.entry) }
+// Pushes a number after a mark, in a color if there is one, if there is a number.
+fn push_next_number(text: &mut Pending, color: Option<&str>, before: &[u8], number: Option<u64>)
+    ensures { Adds text.old text.new
+        (next_number_field (color_of color.entry) before.now number) }
+{
+    if let Some(number) = number {
+        text.push(before);
+        push_digits(text, color, number, b"")
+    }
+}
+
+// The mark that comes after a number, or the one that has come before it if there is no number.
+fn next_mark<'m>(before: &'m [u8], mark: &'m [u8], number: Option<u64>) -> &'m [u8]
+    ensures { result.now ≡ next_mark before.now mark.now number }
+{
+    match number {
+        Some(_) => mark,
+        None => before,
+    }
+}
+
+// Pushes a text, in a color if there is one, and a mark, if there is a text.
+fn push_text(text: &mut Pending, color: Option<&str>, field: Option<&str>, mark: &[u8])
+    ensures { Adds text.old text.new (text_field (color_of color.entry) mark.now field.entry) }
+{
+    match field {
+        Some(field) => {
+            push_colored(text, color, field.as_bytes());
+            text.push(mark)
+        }
+        None => {}
+    }
+}
+
+// Pushes a path, in a color if there is one and as a link if it has one, and a mark, if there is a
+// path.
+pub(crate) fn push_path(
+    text: &mut Pending,
+    color: Option<&str>,
+    path: &Option<PrinterPath<'_>>,
+    mark: &[u8],
+)
+    ensures { Adds text.old text.new (path_field (color_of color.entry) mark.now path.now) }
 {
     match path {
         Some(path) => {
-            push_colored(text, color, path.as_bytes());
+            push_linked_path(text, color, path);
             text.push(mark)
         }
         None => {}

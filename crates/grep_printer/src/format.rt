@@ -14,6 +14,7 @@ ghost use Rattle.grep_printer.specs.Reports.{FitsEvent, IsShownEvent, event_call
 ghost use Rattle.grep_printer.specs.Reports.{printed_event};
 ghost use Rattle.grep_printer.specs.TextWriters.{PutsInPieces, had_memory};
 
+use crate::hyperlinks::PrinterPath;
 use crate::report::Report;
 use crate::text_writer::{TextError, TextWriter};
 use grep_output::{Output, Pending};
@@ -79,12 +80,16 @@ pub trait Format: Copy {
     /// Whether only bare lines are written: each line as it is, after its number alone, and what
     /// comes between groups of lines. Then a call's text is written even if there is no memory for
     /// it.
-    fn is_bare<A: Allocator + Copy>(&self, searcher: &Searcher<A>, path: Option<&str>) -> bool
+    fn is_bare<A: Allocator + Copy>(
+        &self,
+        searcher: &Searcher<A>,
+        path: &Option<PrinterPath<'_>>,
+    ) -> bool
         ensures value { result ≡ rules.is_bare self.now
-            (record { path = path.entry; settings = searcher.now.settings }) }
+            (record { path = path.now; settings = searcher.now.settings }) }
         ensures text { result ≡ true → (printed : PrintedCall) → printed.parts ≡ []
             → rules.text self.now
-            (record { path = path.entry; settings = searcher.now.settings }) printed
+            (record { path = path.now; settings = searcher.now.settings }) printed
             ≡ bare_text (byte_of searcher.now.settings.line_terminator) printed.call };
 
     /// Pushes the text of a call to a text that is empty, and returns whether the search goes on.
@@ -93,7 +98,7 @@ pub trait Format: Copy {
         &mut self,
         text: &mut Pending,
         searcher: &Searcher<A>,
-        path: Option<&str>,
+        path: &Option<PrinterPath<'_>>,
         event: &Event<'_>,
         parts: &[Match],
     ) -> bool
@@ -102,17 +107,17 @@ pub trait Format: Copy {
         requires shown { IsShownEvent event.now }
         requires ordered { AreInOrder 0 (length (reported_bytes (event_call event.now))) parts.now }
         ensures text { Adds text.old text.new (rules.text self.old
-            (record { path = path.entry; settings = searcher.now.settings })
+            (record { path = path.now; settings = searcher.now.settings })
             (printed_event event.now parts.now)) }
         ensures next { (not text.new.has_failed || rules.is_bare self.old
-            (record { path = path.entry; settings = searcher.now.settings })) ≡ true
+            (record { path = path.now; settings = searcher.now.settings })) ≡ true
             → self.new ≡ rules.next self.old
-            (record { path = path.entry; settings = searcher.now.settings })
+            (record { path = path.now; settings = searcher.now.settings })
             (printed_event event.now parts.now) }
         ensures goes_on { (not text.new.has_failed || rules.is_bare self.old
-            (record { path = path.entry; settings = searcher.now.settings })) ≡ true
+            (record { path = path.now; settings = searcher.now.settings })) ≡ true
             → result ≡ rules.goes_on self.old
-            (record { path = path.entry; settings = searcher.now.settings })
+            (record { path = path.now; settings = searcher.now.settings })
             (printed_event event.now parts.now) };
 
     /// Pushes the texts of some lines, each of which is a match, as one text after those that are
@@ -125,7 +130,7 @@ pub trait Format: Copy {
         &mut self,
         text: &mut Pending,
         searcher: &Searcher<A>,
-        path: Option<&str>,
+        path: &Option<PrinterPath<'_>>,
         lines: &SinkMatch<'_>,
     ) -> bool
         requires some { 0 < length (match_bytes lines.now) }
@@ -135,7 +140,7 @@ pub trait Format: Copy {
         requires fits { lines.now.offset + length (match_bytes lines.now) < 2 ^ 64 }
         ensures before { result ≡ true → text.new.before ≡ pending_bytes text.old }
         ensures texts { result ≡ true → text.new.has_failed ≡ false → AreTexts rules
-            (record { path = path.entry; settings = searcher.now.settings }) self.old
+            (record { path = path.now; settings = searcher.now.settings }) self.old
             (calls_of_match lines.now) text.new.text self.new }
         ensures failed { text.new.has_failed ≡ true → result ≡ true → self.new ≡ self.old }
         ensures same { result ≡ false → (self.new ≡ self.old) × (text.new ≡ text.old) }
@@ -153,7 +158,7 @@ pub trait Format: Copy {
         &mut self,
         out: &mut TextWriter<'_, W>,
         searcher: &Searcher<A>,
-        path: Option<&str>,
+        path: &Option<PrinterPath<'_>>,
         event: &Event<'_>,
         parts: &[Match],
     ) -> Option<Result<bool, TextError>>
@@ -162,13 +167,13 @@ pub trait Format: Copy {
         requires shown { IsShownEvent event.now }
         requires ordered { AreInOrder 0 (length (reported_bytes (event_call event.now))) parts.now }
         ensures put { IfSome result (λ put. PutsInPieces W.step out.old (rules.text self.old
-            (record { path = path.entry; settings = searcher.now.settings })
+            (record { path = path.now; settings = searcher.now.settings })
             (printed_event event.now parts.now)) put out.new) }
         ensures next { IfSome result (λ put. had_memory put ≡ true → self.new ≡ rules.next self.old
-            (record { path = path.entry; settings = searcher.now.settings })
+            (record { path = path.now; settings = searcher.now.settings })
             (printed_event event.now parts.now)) }
         ensures goes_on { IfSome result (λ put. IfOk put (λ goes. goes ≡ rules.goes_on self.old
-            (record { path = path.entry; settings = searcher.now.settings })
+            (record { path = path.now; settings = searcher.now.settings })
             (printed_event event.now parts.now))) }
         ensures same { result ≡ None → (self.new ≡ self.old) × (out.new ≡ out.old) }
     {

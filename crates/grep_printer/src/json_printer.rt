@@ -1,6 +1,7 @@
 //! The printer of JSON.
 ghost use Rattle.std.specs.Prelude.{◌≡◌, MatchResult, [], false, length};
 ghost use Rattle.grep_searcher.specs.Lines.{byte_of, lines};
+ghost use Rattle.grep_printer.specs.Hyperlinks.{shown_path};
 ghost use Rattle.grep_printer.specs.JsonEnds.{FailsToPutText, PutsText};
 ghost use Rattle.grep_printer.specs.JsonMessages.{json_line, summary_json};
 ghost use Rattle.grep_printer.specs.JsonPieces.{message_of, with_matches};
@@ -14,6 +15,7 @@ ghost use Rattle.grep_printer.specs.Reports.{IsShown, call_of, type_of};
 ghost use Rattle.grep_printer.specs.StatsSums.{nanos_of};
 
 use crate::format::{Event, Format};
+use crate::hyperlinks::{PrinterPath, shown_path};
 use crate::json_lines::{Message, add_message, add_report};
 use crate::messages::Replacements;
 use crate::printer::{Printer, PrinterSink};
@@ -249,7 +251,11 @@ impl<R: Replacer> Format for JsonFormat<R> {
         self.progress.has_match
     }
 
-    fn is_bare<A: Allocator + Copy>(&self, _searcher: &Searcher<A>, _path: Option<&str>) -> bool {
+    fn is_bare<A: Allocator + Copy>(
+        &self,
+        _searcher: &Searcher<A>,
+        _path: &Option<PrinterPath<'_>>,
+    ) -> bool {
         false
     }
 
@@ -257,10 +263,11 @@ impl<R: Replacer> Format for JsonFormat<R> {
         &mut self,
         text: &mut Pending,
         searcher: &Searcher<A>,
-        path: Option<&str>,
+        path: &Option<PrinterPath<'_>>,
         event: &Event<'_>,
         parts: &[Match],
     ) -> bool {
+        let path = shown_path(path);
         match event {
             Event::Begin => {
                 if self.always_begin_end && !self.progress.is_begun {
@@ -332,18 +339,19 @@ impl<'s, R, M, W: Output> PrinterSink<'s, JsonFormat<R>, M, W> {
         ensures format { self.new.format ≡ self.old.format }
         ensures end { MatchResult result
             (λ stats. (stats ≡ stats_of self.old.format.progress (nanos_of elapsed))
-            × PutsText W.step self.old.writer.now self.old.printer.now (end_text self.old.path
-            self.old.format.progress (nanos_of elapsed)) self.new.writer.now self.new.printer.now)
-            (λ e. FailsToPutText W.step self.old.writer.now self.old.printer.now (end_text
-            self.old.path self.old.format.progress (nanos_of elapsed)) e self.new.writer.now
-            self.new.printer.now) }
+            × PutsText W.step self.old.writer.now self.old.printer.now
+            (end_text (shown_path self.old.path) self.old.format.progress (nanos_of elapsed))
+            self.new.writer.now self.new.printer.now)
+            (λ e. FailsToPutText W.step self.old.writer.now self.old.printer.now
+            (end_text (shown_path self.old.path) self.old.format.progress (nanos_of elapsed)) e
+            self.new.writer.now self.new.printer.now) }
     {
         let progress = &self.format.progress;
         let stats = progress.stats(nanoseconds(elapsed));
         if !progress.is_reported() {
             return Ok(stats);
         }
-        let end = Message::End(self.path, progress.binary_offset, stats);
+        let end = Message::End(shown_path(&self.path), progress.binary_offset, stats);
         match self.printer.write_message(self.writer, end) {
             Ok(()) => Ok(stats),
             Err(error) => Err(error),

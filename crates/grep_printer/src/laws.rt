@@ -2,6 +2,7 @@
 ghost use Rattle.grep_printer.specs.CountedTexts.{StatsCount};
 ghost use Rattle.grep_printer.specs.JsonLaws.{BeginsTell, MessagesAreReadBack, MessagesTell};
 ghost use Rattle.grep_printer.specs.LinePlaces.{LinesArePlaced, PlainLinesAreNumbered};
+ghost use Rattle.grep_printer.specs.LinkedFields.{LinksAreAround};
 ghost use Rattle.grep_printer.specs.MatchedParts.{PartsAreSuccessive};
 ghost use Rattle.grep_printer.specs.PlanCounts.{JsonCounts, SummariesCount};
 ghost use Rattle.grep_printer.specs.PrinterSteps.{CallsPrint, RunsFailToPrint, RunsPrint};
@@ -85,4 +86,10 @@ pub fn matches_are_counted<R: Replacer>()
 /// bits.
 pub fn searches_are_counted<F: Format>()
     ensures { StatsCount F.rules }
+{}
+
+/// The link before a line is around the line's fields as they are without a link, and the last mark
+/// comes after it.
+pub fn links_are_around_fields()
+    ensures { LinksAreAround }
 {}

@@ -11,6 +11,7 @@ ghost use Rattle.grep_output.specs.PendingTexts.{Adds};
 
 use crate::config::Config;
 use crate::fields::{next_number, push_missing_end, push_number};
+use crate::hyperlinks::{PrinterPath, prefix_link};
 use crate::report::{Report, ReportKind};
 use grep_lines::{LineStep, without_terminator};
 use grep_output::Pending;
@@ -24,7 +25,7 @@ impl<'c> Config<'c> {
     pub(crate) fn push_plain(
         &self,
         text: &mut Pending,
-        path: Option<&str>,
+        path: &Option<PrinterPath<'_>>,
         terminator: LineTerminator,
         report: &Report<'_>,
         parts: &[Match],
@@ -33,7 +34,7 @@ impl<'c> Config<'c> {
         requires ordered { AreInOrder 0 (length report.now.bytes.now) parts.now }
         ensures { MatchBool result
             (Adds text.old text.new (report_text
-            (record { config = self.now; path = path.entry; terminator = terminator })
+            (record { config = self.now; path = path.now; terminator = terminator })
             (call_of report.now) parts.now))
             (text.new ≡ text.old) }
     {
@@ -56,13 +57,14 @@ impl<'c> Config<'c> {
     }
 
     // Whether lines, or parts in their place, are written as they are, each after its number alone:
-    // there is no other field, no limit, no color and no trimming, and the separators are the usual
-    // ones.
+    // there is no other field, no link, no limit, no color and no trimming, and the separators are
+    // the usual ones.
     #[inline(always)]
-    pub(crate) fn is_plain(&self, path: Option<&str>) -> bool
-        ensures { result ≡ is_plain self.now path.entry }
+    pub(crate) fn is_plain(&self, path: &Option<PrinterPath<'_>>) -> bool
+        ensures { result ≡ is_plain self.now path.now }
     {
         (self.heading || path.is_none())
+            && prefix_link(self.heading, path).is_none()
             && !self.column
             && !self.byte_offset
             && self.max_columns.is_none()

@@ -1,5 +1,6 @@
 //! Searches whose reports a printer writes.
 ghost use Rattle.std.specs.Prelude.{◌≡◌, OnOk, true};
+ghost use Rattle.grep_printer.specs.Hyperlinks.{unlinked};
 ghost use Rattle.grep_printer.specs.PrintedSearches.{IsPrintedBy, IsPrintedInOrder};
 ghost use Rattle.grep_printer.specs.PrintedSearches.{IsSearchPrinted};
 ghost use Rattle.grep_printer.specs.PrinterSteps.{IsSameSink};
@@ -49,7 +50,7 @@ pub struct Searched {
 
 impl<F: Format> Printer<F> {
     /// Searches what a source gives, and writes what is reported to `writer`, or keeps it. The
-    /// path, if there is one, is the one that the format writes.
+    /// path, if there is one, is the one that the format writes. It is no link.
     pub fn search<M: FindAt + Copy, H: Source, W: Output>(
         &mut self,
         searcher: &mut Searcher,
@@ -61,8 +62,8 @@ impl<F: Format> Printer<F> {
         ensures settings { searcher.new.settings ≡ searcher.old.settings }
         ensures buffers { searcher.old.has_buffers ≡ true → searcher.new.has_buffers ≡ true }
         ensures printed { IsPrintedBy F.rules M.Error.output M.facts M.first_at W.step H.remaining
-            H.step searcher.old matcher path.entry haystack.old writer.old self.old result
-            haystack.new writer.new self.new }
+            H.step searcher.old matcher (unlinked path.entry) haystack.old writer.old self.old
+            result haystack.new writer.new self.new }
     {
         let mut sink = self.sink(writer, matcher, path);
         let result = search(searcher, matcher, haystack, &mut sink);

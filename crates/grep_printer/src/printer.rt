@@ -13,6 +13,7 @@ ghost use Rattle.grep_searcher.specs.SinkArguments.{context_call, match_call};
 ghost use Rattle.grep_printer.specs.BareTexts.{bare_text};
 ghost use Rattle.grep_printer.specs.CallParts.{FailsAtParts, has_match};
 ghost use Rattle.grep_printer.specs.Formats.{is_text};
+ghost use Rattle.grep_printer.specs.Hyperlinks.{unlinked};
 ghost use Rattle.grep_printer.specs.MatchedParts.{AreInOrder};
 ghost use Rattle.grep_printer.specs.PartErrors.{EachErrorIs};
 ghost use Rattle.grep_printer.specs.PrinterSteps.{HasFound, IsAsBefore, IsPreparing, IsPushed};
@@ -24,6 +25,7 @@ ghost use Rattle.grep_printer.specs.Reports.{printed_event};
 
 use crate::bare::write_call;
 use crate::format::{Event, Format};
+use crate::hyperlinks::{PrinterPath, unlinked};
 use crate::parts::{PartsError, find_report_parts, search_error};
 use crate::report::{Report, finish_of};
 use grep_output::{Output, Pending};
@@ -104,12 +106,30 @@ impl<F> Printer<F> {
 
 impl<F: Format> Printer<F> {
     /// The sink of a search, which writes to `writer`. The matcher has to be the one of the search.
-    /// The path, if there is one, is the one that the format writes.
+    /// The path, if there is one, is the one that the format writes. It is no link.
     pub fn sink<'s, M: FindAt, W>(
         &'s mut self,
         writer: &'s mut W,
         matcher: M,
         path: Option<&'s str>,
+    ) -> PrinterSink<'s, F, M, W>
+        ensures printer { result.printer.ghost_name ≡ self.entry.ghost_name }
+        ensures now { result.printer.now ≡ self.old }
+        ensures writer { result.writer.ghost_name ≡ writer.entry.ghost_name }
+        ensures writes_to { result.writer.now ≡ writer.old }
+        ensures matcher { result.matcher ≡ matcher }
+        ensures path { result.path ≡ unlinked path.entry }
+        ensures format { result.format ≡ F.rules.begun self.old.format self.old.has_written }
+    {
+        self.sink_with_path(writer, matcher, unlinked(path))
+    }
+
+    /// The sink of a search, as `sink` gives it. The path may be a link.
+    pub fn sink_with_path<'s, M: FindAt, W>(
+        &'s mut self,
+        writer: &'s mut W,
+        matcher: M,
+        path: Option<PrinterPath<'s>>,
     ) -> PrinterSink<'s, F, M, W>
         ensures printer { result.printer.ghost_name ≡ self.entry.ghost_name }
         ensures now { result.printer.now ≡ self.old }
@@ -309,7 +329,7 @@ pub struct PrinterSink<'s, F, M, W> {
     pub(crate) printer: &'s mut Printer<F>,
     pub(crate) writer: &'s mut W,
     pub(crate) matcher: M,
-    pub(crate) path: Option<&'s str>,
+    pub(crate) path: Option<PrinterPath<'s>>,
     pub(crate) format: F,
 }
 
@@ -491,7 +511,7 @@ impl<'s, F: Format, M: FindAt, W: Output> PrinterSink<'s, F, M, W> {
         let printer = &mut *self.printer;
         printer.pending.begin();
         let (text, parts) = (&mut printer.pending, &printer.parts);
-        let goes_on = self.format.push(text, searcher, self.path, event, parts);
+        let goes_on = self.format.push(text, searcher, &self.path, event, parts);
         if !printer.pending.has_failed() && printer.keeps_text() {
             return Some(goes_on);
         }
@@ -523,10 +543,10 @@ impl<'s, F: Format, M: FindAt, W: Output> PrinterSink<'s, F, M, W> {
         let printer = &mut *self.printer;
         printer.pending.begin();
         let (text, parts) = (&mut printer.pending, &printer.parts);
-        let goes_on = self.format.push(text, searcher, self.path, event, parts);
+        let goes_on = self.format.push(text, searcher, &self.path, event, parts);
         if printer.pending.has_failed() {
             printer.pending.cancel();
-            if printer.parts.is_empty() && before.is_bare(searcher, self.path) {
+            if printer.parts.is_empty() && before.is_bare(searcher, &self.path) {
                 let terminator = searcher.line_terminator().as_byte();
                 match printer.write_unkept(self.writer, terminator, event) {
                     Ok(()) => return Ok(goes_on),
@@ -602,7 +622,7 @@ impl<'s, F: Format, M: FindAt, W: Output> Sink for PrinterSink<'s, F, M, W> {
         let printer = &mut *self.printer;
         let text = &mut printer.pending;
         let (len, has_failed) = (text.text_len(), text.has_failed());
-        if !self.format.push_lines(text, searcher, self.path, lines) {
+        if !self.format.push_lines(text, searcher, &self.path, lines) {
             return Ok(false);
         }
         if printer.pending.has_failed() {

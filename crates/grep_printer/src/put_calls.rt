@@ -118,7 +118,7 @@ impl<'s, F: Format, M: FindAt, W: Output> PrinterSink<'s, F, M, W> {
         let parts = &printer.parts;
         let put = self
             .format
-            .put_in_pieces(&mut out, searcher, self.path, event, parts);
+            .put_in_pieces(&mut out, searcher, &self.path, event, parts);
         let has_written = out.has_written;
         match put {
             None => None,
@@ -189,7 +189,7 @@ impl<'s, F: Format, M: FindAt, W: Output> PrinterSink<'s, F, M, W> {
         let printer = &mut *self.printer;
         printer.pending.begin();
         let (text, parts) = (&mut printer.pending, &printer.parts);
-        let goes_on = self.format.push(text, searcher, self.path, event, parts);
+        let goes_on = self.format.push(text, searcher, &self.path, event, parts);
         if !printer.pending.has_failed() {
             return Some(goes_on);
         }

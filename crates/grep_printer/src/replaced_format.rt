@@ -9,6 +9,7 @@ ghost use Rattle.grep_printer.specs.TextWriters.{PutsInPieces, had_memory};
 ghost use Rattle.grep_searcher.specs.Plans.{reported_bytes};
 
 use crate::format::{Event, Format};
+use crate::hyperlinks::PrinterPath;
 use crate::printer::Printer;
 use crate::replaced::Replacement;
 use crate::report::Report;
@@ -93,7 +94,11 @@ impl<'t, F: Format, M: CapturesAt + Copy> Format for ReplacedFormat<'t, F, M> {
         self.format.has_match()
     }
 
-    fn is_bare<A: Allocator + Copy>(&self, _searcher: &Searcher<A>, _path: Option<&str>) -> bool {
+    fn is_bare<A: Allocator + Copy>(
+        &self,
+        _searcher: &Searcher<A>,
+        _path: &Option<PrinterPath<'_>>,
+    ) -> bool {
         false
     }
 
@@ -101,7 +106,7 @@ impl<'t, F: Format, M: CapturesAt + Copy> Format for ReplacedFormat<'t, F, M> {
         &mut self,
         text: &mut Pending,
         searcher: &Searcher<A>,
-        path: Option<&str>,
+        path: &Option<PrinterPath<'_>>,
         event: &Event<'_>,
         parts: &[Match],
     ) -> bool {
@@ -118,7 +123,7 @@ impl<'t, F: Format, M: CapturesAt + Copy> Format for ReplacedFormat<'t, F, M> {
         &mut self,
         out: &mut TextWriter<'_, W>,
         searcher: &Searcher<A>,
-        path: Option<&str>,
+        path: &Option<PrinterPath<'_>>,
         event: &Event<'_>,
         parts: &[Match],
     ) -> Option<Result<bool, TextError>> {
@@ -138,7 +143,7 @@ impl<'t, F: Format, M: CapturesAt + Copy> ReplacedFormat<'t, F, M> {
         &mut self,
         text: &mut Pending,
         searcher: &Searcher<A>,
-        path: Option<&str>,
+        path: &Option<PrinterPath<'_>>,
         report: &Report<'_>,
         parts: &[Match],
     ) -> bool
@@ -146,19 +151,19 @@ impl<'t, F: Format, M: CapturesAt + Copy> ReplacedFormat<'t, F, M> {
         requires shown { IsShown report.now }
         requires ordered { AreInOrder 0 (length report.now.bytes.now) parts.now }
         ensures text { Adds text.old text.new (F.rules.text self.old.format
-            (record { path = path.entry; settings = searcher.now.settings })
+            (record { path = path.now; settings = searcher.now.settings })
             (replaced_report self.old.template.now (M.groups_at self.old.matcher)
             searcher.now.settings (M.facts self.old.matcher).meaning
             (call_of report.now) parts.now)) }
         ensures next { text.new.has_failed ≡ false → self.new ≡ record self.old {
           format = F.rules.next self.old.format
-              (record { path = path.entry; settings = searcher.now.settings })
+              (record { path = path.now; settings = searcher.now.settings })
               (replaced_report self.old.template.now (M.groups_at self.old.matcher)
               searcher.now.settings (M.facts self.old.matcher).meaning
               (call_of report.now) parts.now);
         } }
         ensures goes_on { text.new.has_failed ≡ false → result ≡ F.rules.goes_on self.old.format
-            (record { path = path.entry; settings = searcher.now.settings })
+            (record { path = path.now; settings = searcher.now.settings })
             (replaced_report self.old.template.now (M.groups_at self.old.matcher)
             searcher.now.settings (M.facts self.old.matcher).meaning
             (call_of report.now) parts.now) }
@@ -182,7 +187,7 @@ impl<'t, F: Format, M: CapturesAt + Copy> ReplacedFormat<'t, F, M> {
         &mut self,
         out: &mut TextWriter<'_, W>,
         searcher: &Searcher<A>,
-        path: Option<&str>,
+        path: &Option<PrinterPath<'_>>,
         report: &Report<'_>,
         parts: &[Match],
     ) -> Result<bool, TextError>
@@ -190,19 +195,19 @@ impl<'t, F: Format, M: CapturesAt + Copy> ReplacedFormat<'t, F, M> {
         requires shown { IsShown report.now }
         requires ordered { AreInOrder 0 (length report.now.bytes.now) parts.now }
         ensures put { PutsInPieces W.step out.old (F.rules.text self.old.format
-            (record { path = path.entry; settings = searcher.now.settings })
+            (record { path = path.now; settings = searcher.now.settings })
             (replaced_report self.old.template.now (M.groups_at self.old.matcher)
             searcher.now.settings (M.facts self.old.matcher).meaning
             (call_of report.now) parts.now)) result out.new }
         ensures next { had_memory result ≡ true → self.new ≡ record self.old {
           format = F.rules.next self.old.format
-              (record { path = path.entry; settings = searcher.now.settings })
+              (record { path = path.now; settings = searcher.now.settings })
               (replaced_report self.old.template.now (M.groups_at self.old.matcher)
               searcher.now.settings (M.facts self.old.matcher).meaning
               (call_of report.now) parts.now);
         } }
         ensures goes_on { IfOk result (λ goes. goes ≡ F.rules.goes_on self.old.format
-            (record { path = path.entry; settings = searcher.now.settings })
+            (record { path = path.now; settings = searcher.now.settings })
             (replaced_report self.old.template.now (M.groups_at self.old.matcher)
             searcher.now.settings (M.facts self.old.matcher).meaning
             (call_of report.now) parts.now)) }
@@ -230,7 +235,7 @@ fn put_report<F: Format, A: Allocator + Copy, W: Output>(
     format: &mut F,
     out: &mut TextWriter<'_, W>,
     searcher: &Searcher<A>,
-    path: Option<&str>,
+    path: &Option<PrinterPath<'_>>,
     event: &Event<'_>,
     parts: &[Match],
 ) -> Result<bool, TextError>
@@ -239,13 +244,13 @@ fn put_report<F: Format, A: Allocator + Copy, W: Output>(
     requires shown { IsShownEvent event.now }
     requires ordered { AreInOrder 0 (length (reported_bytes (event_call event.now))) parts.now }
     ensures put { PutsInPieces W.step out.old (F.rules.text format.old
-        (record { path = path.entry; settings = searcher.now.settings })
+        (record { path = path.now; settings = searcher.now.settings })
         (printed_event event.now parts.now)) result out.new }
     ensures next { had_memory result ≡ true → format.new ≡ F.rules.next format.old
-        (record { path = path.entry; settings = searcher.now.settings })
+        (record { path = path.now; settings = searcher.now.settings })
         (printed_event event.now parts.now) }
     ensures goes_on { IfOk result (λ goes. goes ≡ F.rules.goes_on format.old
-        (record { path = path.entry; settings = searcher.now.settings })
+        (record { path = path.now; settings = searcher.now.settings })
         (printed_event event.now parts.now)) }
 {
     if let Some(put) = format.put_in_pieces(out, searcher, path, event, parts) {

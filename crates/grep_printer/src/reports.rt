@@ -64,7 +64,7 @@ impl<'c, 'p> Layout<'c, 'p> {
     // Pushes a report with its fields, after the opening if nothing was reported yet.
     #[inline(never)]
     pub(crate) fn push_laid_out(
-        self,
+        &self,
         text: &mut Pending,
         progress: &Progress,
         report: Report<'_>,
@@ -72,8 +72,8 @@ impl<'c, 'p> Layout<'c, 'p> {
     )
         requires fits { report.offset + length report.bytes.now < 2 ^ 64 }
         requires ordered { AreInOrder 0 (length report.bytes.now) parts.now }
-        ensures { Adds text.old text.new (text_before self.entry progress.now
-            ++ report_text self.entry (call_of report.entry) parts.now) }
+        ensures { Adds text.old text.new (text_before self.now progress.now
+            ++ report_text self.now (call_of report.entry) parts.now) }
     {
         self.push_before(text, progress);
         self.push_report(text, &report, parts)
@@ -102,28 +102,11 @@ impl<'c, 'p> Layout<'c, 'p> {
         ensures { Adds text.old text.new
             (whole_text self.now report.now parts.now report.now.kind) }
     {
-        let place = self.report_place(report, parts);
+        let place = report_place(report, parts);
         let bytes = report.bytes;
         match report.kind {
             ReportKind::Match => self.push_lines(text, LineKind::Match, place, parts, bytes),
             ReportKind::Context(_) => self.push_line(text, LineKind::Context, &place, parts, bytes),
-        }
-    }
-
-    // The place of a report, with the column of its first part if columns are written.
-    fn report_place(&self, report: &Report<'_>, parts: &[Match]) -> Place
-        requires { AreInOrder 0 (length report.now.bytes.now) parts.now }
-        ensures { result ≡ report_place self.now report.now parts.now }
-    {
-        let column = match parts.first() {
-            Some(part) if self.config.column => Some(part.start() as u64 + 1),
-            _ => None,
-        };
-        Place {
-            number: report.number,
-            column,
-            offset: report.offset,
-            start: 0,
         }
     }
 
@@ -210,7 +193,7 @@ impl<'c, 'p> Layout<'c, 'p> {
         }
         let start = part.start().max(span.start);
         let end = part.end().min(span.end).max(start);
-        let mut place = self.part_place(report, number, part);
+        let mut place = part_place(report, number, part);
         place.start = start;
         let bytes = &report.bytes[start..end];
         self.push_line(text, report.kind.line_kind(), &place, &[*part], bytes)
@@ -223,28 +206,40 @@ impl<'c, 'p> Layout<'c, 'p> {
         ensures { Adds text.old text.new (part_text self.now (line_kind report.now.kind)
             report.now.offset report.now.bytes.now number part.now) }
     {
-        let place = self.part_place(report, number, part);
+        let place = part_place(report, number, part);
         let bytes = &report.bytes[part.start()..part.end()];
         self.push_line(text, report.kind.line_kind(), &place, &[*part], bytes)
     }
+}
 
-    // The place of a part: the number of its line, and its own column and offset.
-    fn part_place(&self, report: &Report<'_>, number: Option<u64>, part: &Match) -> Place
-        requires fits { report.now.offset + length report.now.bytes.now < 2 ^ 64 }
-        requires within { part.now.1 ≤ length report.now.bytes.now }
-        ensures { result ≡ part_place self.now (line_kind report.now.kind) report.now.offset
-            report.now.bytes.now number part.now }
-    {
-        let start = part.start() as u64;
-        Place {
-            number,
-            column: if self.config.column {
-                Some(start + 1)
-            } else {
-                None
-            },
-            offset: report.offset + start,
-            start: part.start(),
-        }
+// The place of a report, with the column of its first part.
+fn report_place(report: &Report<'_>, parts: &[Match]) -> Place
+    requires { AreInOrder 0 (length report.now.bytes.now) parts.now }
+    ensures { result ≡ report_place report.now parts.now }
+{
+    let column = match parts.first() {
+        Some(part) => Some(part.start() as u64 + 1),
+        None => None,
+    };
+    Place {
+        number: report.number,
+        column,
+        offset: report.offset,
+        start: 0,
+    }
+}
+
+// The place of a part: the number of its line, and its own column and offset.
+fn part_place(report: &Report<'_>, number: Option<u64>, part: &Match) -> Place
+    requires fits { report.now.offset + length report.now.bytes.now < 2 ^ 64 }
+    requires within { part.now.1 ≤ length report.now.bytes.now }
+    ensures { result ≡ part_place report.now.offset number part.now }
+{
+    let start = part.start() as u64;
+    Place {
+        number,
+        column: Some(start + 1),
+        offset: report.offset + start,
+        start: part.start(),
     }
 }

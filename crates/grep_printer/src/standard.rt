@@ -11,6 +11,7 @@ use crate::binary_messages::push_binary_message;
 use crate::config::Config;
 use crate::fields::{Layout, push_break};
 use crate::format::{Event, Format};
+use crate::hyperlinks::PrinterPath;
 use crate::printer::{Printer, PrinterSink};
 use crate::report::{Report, ReportKind};
 use grep_output::Pending;
@@ -89,14 +90,14 @@ impl<'c> StandardFormat<'c> {
     pub(crate) fn layout<'p, A: Allocator + Copy>(
         &self,
         searcher: &Searcher<A>,
-        path: Option<&'p str>,
+        path: &Option<PrinterPath<'p>>,
     ) -> Layout<'c, 'p>
         ensures { result ≡ layout_of self.now.config
-            (record { path = path.entry; settings = searcher.now.settings }) }
+            (record { path = path.now; settings = searcher.now.settings }) }
     {
         Layout {
             config: self.config,
-            path,
+            path: *path,
             terminator: searcher.line_terminator(),
         }
     }
@@ -107,7 +108,7 @@ impl<'c> StandardFormat<'c> {
         &self,
         text: &mut Pending,
         searcher: &Searcher<A>,
-        path: Option<&str>,
+        path: &Option<PrinterPath<'_>>,
         report: &Report<'_>,
         parts: &[Match],
     )
@@ -116,9 +117,9 @@ impl<'c> StandardFormat<'c> {
         requires ordered { AreInOrder 0 (length report.now.bytes.now) parts.now }
         ensures { Adds text.old text.new
             (text_before (layout_of self.now.config
-            (record { path = path.entry; settings = searcher.now.settings })) self.now.progress
+            (record { path = path.now; settings = searcher.now.settings })) self.now.progress
             ++ report_text (layout_of self.now.config
-            (record { path = path.entry; settings = searcher.now.settings }))
+            (record { path = path.now; settings = searcher.now.settings }))
             (call_of report.now) parts.now) }
     {
         let (config, terminator) = (&self.config, searcher.line_terminator());
@@ -136,7 +137,7 @@ impl<'c> StandardFormat<'c> {
         &mut self,
         text: &mut Pending,
         searcher: &Searcher<A>,
-        path: Option<&str>,
+        path: &Option<PrinterPath<'_>>,
         report: &Report<'_>,
         parts: &[Match],
     ) -> bool
@@ -144,7 +145,7 @@ impl<'c> StandardFormat<'c> {
         requires shown { IsShown report.now }
         requires ordered { AreInOrder 0 (length report.now.bytes.now) parts.now }
         ensures text { Adds text.old text.new (call_text self.old.config self.old.progress
-            (record { path = path.entry; settings = searcher.now.settings }) (call_of report.now)
+            (record { path = path.now; settings = searcher.now.settings }) (call_of report.now)
             parts.now) }
         ensures config { self.new.config ≡ self.old.config }
         ensures progress { self.new.progress
@@ -184,7 +185,11 @@ impl<'c> Format for StandardFormat<'c> {
         self.progress.has_match
     }
 
-    fn is_bare<A: Allocator + Copy>(&self, searcher: &Searcher<A>, path: Option<&str>) -> bool {
+    fn is_bare<A: Allocator + Copy>(
+        &self,
+        searcher: &Searcher<A>,
+        path: &Option<PrinterPath<'_>>,
+    ) -> bool {
         self.config.is_bare(searcher, path)
     }
 
@@ -193,7 +198,7 @@ impl<'c> Format for StandardFormat<'c> {
         &mut self,
         text: &mut Pending,
         searcher: &Searcher<A>,
-        path: Option<&str>,
+        path: &Option<PrinterPath<'_>>,
         event: &Event<'_>,
         parts: &[Match],
     ) -> bool {
@@ -219,7 +224,7 @@ impl<'c> Format for StandardFormat<'c> {
         &mut self,
         text: &mut Pending,
         searcher: &Searcher<A>,
-        path: Option<&str>,
+        path: &Option<PrinterPath<'_>>,
         lines: &SinkMatch<'_>,
     ) -> bool {
         let has_parts = !searcher.invert_match() && self.config.asks_for_parts();

@@ -6,6 +6,7 @@ ghost use Rattle.grep_printer.specs.SummaryTexts.{no_counts, path_line, with_mat
 
 use crate::fields::push_path;
 use crate::format::{Event, Format};
+use crate::hyperlinks::PrinterPath;
 use crate::printer::{Printer, PrinterSink};
 use crate::report::ReportKind;
 use crate::summary_builder::{SummaryConfig, SummaryKind};
@@ -61,9 +62,9 @@ impl Counts {
 
 impl<'c> SummaryFormat<'c> {
     // Pushes the summary of a search that has ended.
-    fn push_summary(&self, text: &mut Pending, path: Option<&str>, terminator: u8)
+    fn push_summary(&self, text: &mut Pending, path: &Option<PrinterPath<'_>>, terminator: u8)
         ensures { Adds text.old text.new (finish_text self.now.config.kind self.now.config
-            path.entry terminator self.now.counts) }
+            path.now terminator self.now.counts) }
     {
         let count = self.counts.match_count;
         if self.config.kind.is_written(count, self.config.exclude_zero) {
@@ -101,7 +102,11 @@ impl<'c> Format for SummaryFormat<'c> {
         self.config.kind.has_found(self.counts.match_count)
     }
 
-    fn is_bare<A: Allocator + Copy>(&self, _searcher: &Searcher<A>, _path: Option<&str>) -> bool {
+    fn is_bare<A: Allocator + Copy>(
+        &self,
+        _searcher: &Searcher<A>,
+        _path: &Option<PrinterPath<'_>>,
+    ) -> bool {
         false
     }
 
@@ -110,7 +115,7 @@ impl<'c> Format for SummaryFormat<'c> {
         &mut self,
         text: &mut Pending,
         searcher: &Searcher<A>,
-        path: Option<&str>,
+        path: &Option<PrinterPath<'_>>,
         event: &Event<'_>,
         parts: &[Match],
     ) -> bool {
@@ -138,7 +143,7 @@ impl<'c> Format for SummaryFormat<'c> {
         &mut self,
         text: &mut Pending,
         searcher: &Searcher<A>,
-        _path: Option<&str>,
+        _path: &Option<PrinterPath<'_>>,
         lines: &SinkMatch<'_>,
     ) -> bool {
         let has_parts = !searcher.invert_match() && self.config.kind.counts_parts();
@@ -163,11 +168,11 @@ fn is_left_out(detection: &BinaryDetection, binary: Option<u64>) -> bool
 fn push_found_line(
     text: &mut Pending,
     config: &SummaryConfig<'_>,
-    path: Option<&str>,
+    path: &Option<PrinterPath<'_>>,
     terminator: u8,
     counts: &Counts,
 )
-    ensures { Adds text.old text.new (found_line config.now.kind config.now path.entry terminator
+    ensures { Adds text.old text.new (found_line config.now.kind config.now path.now terminator
         counts.now) }
 {
     match config.kind {
@@ -188,11 +193,11 @@ fn push_found_line(
 fn push_count_line(
     text: &mut Pending,
     config: &SummaryConfig<'_>,
-    path: Option<&str>,
+    path: &Option<PrinterPath<'_>>,
     terminator: u8,
     count: u64,
 )
-    ensures { Adds text.old text.new (count_line config.now path.entry terminator count) }
+    ensures { Adds text.old text.new (count_line config.now path.now terminator count) }
 {
     let mark = config.path_terminator.unwrap_or(b':');
     push_path(text, config.color_specs.path(), path, &[mark]);
@@ -203,10 +208,10 @@ fn push_count_line(
 fn push_path_line(
     text: &mut Pending,
     config: &SummaryConfig<'_>,
-    path: Option<&str>,
+    path: &Option<PrinterPath<'_>>,
     terminator: u8,
 )
-    ensures { Adds text.old text.new (path_line config.now path.entry terminator) }
+    ensures { Adds text.old text.new (path_line config.now path.now terminator) }
 {
     let mark = config.path_terminator.unwrap_or(terminator);
     push_path(text, config.color_specs.path(), path, &[mark])

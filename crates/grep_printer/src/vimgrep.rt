@@ -9,6 +9,7 @@ ghost use Rattle.grep_printer.specs.VimgrepTexts.{part_line, part_lines, vimgrep
 use crate::config::StandardBuilder;
 use crate::fields::{Layout, Place};
 use crate::format::{Event, Format};
+use crate::hyperlinks::PrinterPath;
 use crate::part_pieces::put_part_lines;
 use crate::printer::{Printer, PrinterSink};
 use crate::report::Report;
@@ -74,7 +75,11 @@ impl<'c> Format for VimgrepFormat<'c> {
         self.lines.has_match()
     }
 
-    fn is_bare<A: Allocator + Copy>(&self, _searcher: &Searcher<A>, _path: Option<&str>) -> bool {
+    fn is_bare<A: Allocator + Copy>(
+        &self,
+        _searcher: &Searcher<A>,
+        _path: &Option<PrinterPath<'_>>,
+    ) -> bool {
         false
     }
 
@@ -82,7 +87,7 @@ impl<'c> Format for VimgrepFormat<'c> {
         &mut self,
         text: &mut Pending,
         searcher: &Searcher<A>,
-        path: Option<&str>,
+        path: &Option<PrinterPath<'_>>,
         event: &Event<'_>,
         parts: &[Match],
     ) -> bool {
@@ -105,7 +110,7 @@ impl<'c> Format for VimgrepFormat<'c> {
         &mut self,
         out: &mut TextWriter<'_, W>,
         searcher: &Searcher<A>,
-        path: Option<&str>,
+        path: &Option<PrinterPath<'_>>,
         event: &Event<'_>,
         parts: &[Match],
     ) -> Option<Result<bool, TextError>> {
@@ -169,7 +174,7 @@ pub(crate) fn push_part_line(
     let start = line.start();
     let place = Place {
         number: report.number.map(|first| first.saturating_add(passed)),
-        column: layout.config.column.then_some((at - start) as u64 + 1),
+        column: Some((at - start) as u64 + 1),
         offset: report.offset + at as u64,
         start,
     };

@@ -2,7 +2,6 @@
 use Rattle.std.proofs.Common.{◌≡◌, ℕ, List, [], ◌++◌, length, refl, sym, ap, ◌∙◌, subst}
 use Rattle.std.proofs.lemmas.List.{append-nil}
 use Rattle.std.specs.Prelude.{Bool, true, false, if◌then◌else◌, Option, Some, None, Result, Ok, Err, IfErr, OnOk}
-use Rattle.std.specs.Borrow.{Bor}
 use Rattle.std.specs.Global.{Global}
 use Rattle.std.specs.Io.KnownBytes.{Appends, Consumes, IsAtEnd}
 use Rattle.std.specs.List.{concat}
@@ -17,6 +16,7 @@ use Rattle.grep_output.specs.PendingTexts.{pending_bytes}
 use Rattle.grep_printer.specs.PrintedSearches.{IsPrintedBy, IsSearchPrinted, IsSourcePrinted, PrintsCalls, of_input}
 use Rattle.grep_printer.specs.PrintedSearches.{of_reading, search_errors}
 use Rattle.grep_printer.specs.StandardTexts.{default_config, standard_rules}
+use Rattle.grep_printer.specs.declared.hyperlinks.PrinterPath.{PrinterPath}
 use Rattle.grep_printer.specs.declared.printed_search.Searched.{Searched}
 use Rattle.grep_printer.specs.declared.printer.Printer.{Printer}
 use Rattle.grep_printer.specs.declared.printer.PrinterSink.{PrinterSink}
@@ -340,7 +340,7 @@ module _ {R W M E : Type 0} (remaining : R → Option (List ℕ)) (read_step : R
 pub printer-searched : {R W M E : Type 0} {remaining : R → Option (List ℕ)}
     {read_step : R → ReadResult → R → Type 0} {write_step : W → OutputCall → W → Type 0}
     {output : E → Option (List ℕ)} {facts : M → MatcherFacts E} {first_at : M → List ℕ → ℕ → Option (ℕ × ℕ)}
-    {state : SearcherState} {matcher : M} {path : Option (Bor (List ℕ))} {reader reader' : R} {writer writer' : W}
+    {state : SearcherState} {matcher : M} {path : Option PrinterPath} {reader reader' : R} {writer writer' : W}
     {printer printer' : Printer StandardFormat} {search : Searched} (options : Options) → options.count ≡ false
     → state ≡ searcher_of options → (facts matcher).meaning ≡ meaning_of options
     → IsInfallible (facts matcher).fails

@@ -1,5 +1,5 @@
 -- What the calls of an engine come to, by what its output holds, and how its output fails.
-use Rattle.std.proofs.Common.{◌≡◌, ◌∙◌, ℕ, Bool, true, false, List, [], ◌∷◌, ◌++◌, ap, append_assoc, refl, subst}
+use Rattle.std.proofs.Common.{◌≡◌, ◌∙◌, ℕ, Bool, true, false, List, [], ◌∷◌, ◌++◌, ap, append_assoc, refl, subst, subst₂}
 use Rattle.std.proofs.Common.{sym}
 use Rattle.std.proofs.Common.{◌⊎◌, inl, inr, true≢false}
 use Rattle.std.specs.Prelude.{◌||◌, MatchResult, None, Option, Some, Result, Ok, Err, is_some}
@@ -29,7 +29,7 @@ use Rattle.linegrep_cli.proofs.SearchTextLemmas.{IsAfter, not-both, one-error, o
 use Rattle.linegrep_cli.proofs.VisitSoundLemmas.{CallsKeep, IsSearchedSoundly}
 use Rattle.linegrep_cli.specs.EngineCalls.{EngineCall, finishes, says, searches_file, searches_input, sets_quits}
 use Rattle.linegrep_cli.specs.Haystacks.{IsPulled, IsPulledIn, remaining_in, remaining_of}
-use Rattle.linegrep_cli.specs.PathSeparators.{IsShown}
+use Rattle.linegrep_cli.specs.HyperlinkOptions.{IsPathShown}
 use Rattle.linegrep_cli.specs.PrintingEngines.{IsEngineStep, IsSearched, IsUnsearched, IsWrittenResult}
 use Rattle.linegrep_cli.specs.PrintingEngines.{detection_with}
 use Rattle.linegrep_cli.specs.RunInputs.{AreReadOf, IsFileInput, IsReaderInput}
@@ -41,6 +41,9 @@ use Rattle.linegrep_cli.specs.WrittenRuns.{HasFailedWith}
 use Rattle.linegrep_cli.specs.declared.engine.PrintingEngine.{PrintingEngine}
 use Rattle.linegrep_cli.specs.declared.haystacks.Haystack.{Haystack}
 use Rattle.linegrep_cli.specs.declared.printers.Printer.{Printer}
+use Rattle.grep_printer.specs.declared.hyperlinks.HyperlinkConfig.{HyperlinkConfig}
+use Rattle.grep_printer.specs.declared.hyperlinks.PrinterPath.{PrinterPath}
+use Rattle.linegrep_files.specs.FolderFacts.{FolderFacts}
 
 at-end : {R : Type 0} (remaining : R → Option (List ℕ)) (read_step : R → ReadResult → R → Type 0) (ended : Bool)
     (old : R) (pieces : List (List ℕ)) (new : R) → Reads remaining read_step ended old pieces new → ended ≡ true
@@ -112,22 +115,23 @@ module _ {F R : Type 0} (file_remaining : F → Option (List ℕ)) (remaining : 
             (remaining_in file_remaining remaining file new.reader)) gone end,
       )
 
-module _ {F M R W X E : Type 0} (output : E → Option (List ℕ)) (facts : M → MatcherFacts E)
+module _ {S F M R W X E : Type 0} (output : E → Option (List ℕ)) (facts : M → MatcherFacts E)
     (first_at : M → List ℕ → ℕ → Option (ℕ × ℕ)) (groups_at : M → List ℕ → ℕ → List (Option (ℕ × ℕ)))
     (write_step : W → OutputCall → W → Type 0) (file_remaining : F → Option (List ℕ)) (remaining : R → Option (List ℕ))
     (read_step : R → ReadResult → R → Type 0) (contents : W
     → Option (List ℕ)) (grows : (old new : W) (call : OutputCall) → write_step old call new
     → Appends (contents old) (contents new) (taken_by call))
-    (settings : Settings) (separator : Option ℕ) (matcher : M)
+    (settings : Settings) (separator : Option ℕ) (facts_of : S → FolderFacts) (system : S)
+    (hyperlinks : Option (Bor HyperlinkConfig)) (matcher : M)
     (trusted : (terminator : LineTerminator) → (facts matcher).is_lawful terminator) (first : Printer M)
     (before : List ℕ) where
-  abbrev Step : PrintingEngine F M R W X → EngineCall F → PrintingEngine F M R W X → Type 0
-  Step = IsEngineStep output facts first_at groups_at write_step file_remaining remaining read_step
+  abbrev Step : PrintingEngine S F M R W X → EngineCall F → PrintingEngine S F M R W X → Type 0
+  Step = IsEngineStep output facts first_at groups_at write_step file_remaining remaining read_step facts_of
 
   -- The engine of a run, some of whose inputs were searched. What it holds and what waits to be written are
   -- what it held in the beginning and the texts of these.
   pub record IsAt (quits : Bool) (inputs : List Input) (found : Bool) (reader : R)
-      (engine : PrintingEngine F M R W X) : Type 0 where
+      (engine : PrintingEngine S F M R W X) : Type 0 where
     pub findings : Findings
     pub texts : AreTextsFor facts first_at groups_at settings matcher first inputs findings
     pub found_is : findings.found ≡ found
@@ -135,6 +139,8 @@ module _ {F M R W X E : Type 0} (output : E → Option (List ℕ)) (facts : M �
     pub asks : engine.matcher ≡ matcher
     pub detects : engine.detection ≡ settings.binary_detection
     pub separates : engine.path_separator ≡ separator
+    pub links : engine.hyperlinks ≡ hyperlinks
+    pub asks_system : engine.system.now ≡ system
     pub reads : engine.haystack ≡ record { file = None; reader = reader }
     pub after : IsPrinterAfter first engine.printer findings
     pub held : List ℕ
@@ -142,12 +148,12 @@ module _ {F M R W X E : Type 0} (output : E → Option (List ℕ)) (facts : M �
     pub whole : before ++ findings.text ≡ held ++ pending_of engine.printer
 
   -- an engine whose writer hasn't failed
-  pub record IsSound (engine : PrintingEngine F M R W X) : Type 0 where
+  pub record IsSound (engine : PrintingEngine S F M R W X) : Type 0 where
     pub asks : engine.matcher ≡ matcher
     pub unfailed : has_failed engine.printer ≡ false
 
   -- an engine of whose run all is written
-  pub record IsDone (inputs : List Input) (found : Bool) (reader : R) (engine : PrintingEngine F M R W X) : Type 0
+  pub record IsDone (inputs : List Input) (found : Bool) (reader : R) (engine : PrintingEngine S F M R W X) : Type 0
     where
       pub findings : Findings
       pub texts : AreTextsFor facts first_at groups_at settings matcher first inputs findings
@@ -157,18 +163,29 @@ module _ {F M R W X E : Type 0} (output : E → Option (List ℕ)) (facts : M �
       pub holds : contents engine.writer ≡ Some (before ++ (findings.text ++ totals))
       pub reads : engine.haystack.reader ≡ reader
 
-  module _ (old new : PrintingEngine F M R W X) where
+  module _ (old new : PrintingEngine S F M R W X) where
     lawful : old.matcher ≡ matcher → IsLawful (facts old.matcher) old.searcher.settings
     lawful asks asked =
         subst (λ m. (facts m).is_lawful old.searcher.settings.line_terminator) (sym asks)
         (trusted old.searcher.settings.line_terminator)
 
-    -- a path that is shown by the engine's separator
-    shown-by : (path shown : Option (Bor (List ℕ))) → old.path_separator ≡ separator
-        → IsShown old.path_separator path shown → IsShown separator path shown
-    shown-by path shown is shows = subst (λ s. IsShown s path shown) is shows
+    -- a path that is shown by the engine's separator, and by links
+    shown-by : (links : Option (Bor HyperlinkConfig)) (path : Option (Bor (List ℕ))) (shown : Option PrinterPath)
+        → old.path_separator ≡ separator → old.system.now ≡ system
+        → IsPathShown (facts_of old.system.now) old.path_separator links path shown
+        → IsPathShown (facts_of system) separator links path shown
+    shown-by links path shown is asks shows = subst₂ (λ s (x : S). IsPathShown (facts_of x) s links path shown) is asks
+        shows
 
-    module _ (file : Option F) (shown : Option (Bor (List ℕ))) (searched : Searched)
+    -- and by the engine's links
+    shown-with : (path : Option (Bor (List ℕ))) (shown : Option PrinterPath)
+        → old.path_separator ≡ separator → old.hyperlinks ≡ hyperlinks → old.system.now ≡ system
+        → IsPathShown (facts_of old.system.now) old.path_separator old.hyperlinks path shown
+        → IsPathShown (facts_of system) separator hyperlinks path shown
+    shown-with path shown is links asks shows = shown-by hyperlinks path shown is asks
+        (subst (λ l. IsPathShown (facts_of old.system.now) old.path_separator l path shown) links shows)
+
+    module _ (file : Option F) (shown : Option PrinterPath) (searched : Searched)
         (search : IsSearched output facts first_at groups_at write_step file_remaining remaining read_step file old
         shown
         searched new) (ok : searched.result ≡ Ok tt) (quits : Bool) (inputs : List Input) (found : Bool) (reader : R)
@@ -225,10 +242,12 @@ module _ {F M R W X E : Type 0} (output : E → Option (List ℕ)) (facts : M �
         texts = next_input searched-input next.next at.texts searched-text;
         found_is = ap (λ found. found || next.next.found) at.found_is ∙ ap (λ match. found || match) next.found;
         is_settings = search.settings ∙ at.is_settings;
-        asks = ap (λ (e : PrintingEngine F M R W X). e.matcher) search.others ∙ at.asks;
-        detects = ap (λ (e : PrintingEngine F M R W X). e.detection) search.others ∙ at.detects;
-        separates = ap (λ (e : PrintingEngine F M R W X). e.path_separator) search.others ∙ at.separates;
-        reads = ap (λ (e : PrintingEngine F M R W X). e.haystack) search.others
+        asks = ap (λ (e : PrintingEngine S F M R W X). e.matcher) search.others ∙ at.asks;
+        detects = ap (λ (e : PrintingEngine S F M R W X). e.detection) search.others ∙ at.detects;
+        separates = ap (λ (e : PrintingEngine S F M R W X). e.path_separator) search.others ∙ at.separates;
+        links = ap (λ (e : PrintingEngine S F M R W X). e.hyperlinks) search.others ∙ at.links;
+        asks_system = ap (λ (e : PrintingEngine S F M R W X). e.system.now) search.others ∙ at.asks_system;
+        reads = ap (λ (e : PrintingEngine S F M R W X). e.haystack) search.others
             ∙ ap (λ r. record { file = None; reader = r }) left;
         after = next.after;
         held = put.0;
@@ -239,16 +258,16 @@ module _ {F M R W X E : Type 0} (output : E → Option (List ℕ)) (facts : M �
       }
 
   -- a search of a file, or of standard input, with a path as it is shown
-  pub file-kept : (quits : Bool) (inputs : List Input) (found : Bool) (reader : R) (old new : PrintingEngine F M R W X)
+  pub file-kept : (quits : Bool) (inputs : List Input) (found : Bool) (reader : R) (old new : PrintingEngine S F M R W X)
       (path : Option (Bor (List ℕ))) (file : F) (searched : Searched) → IsAt quits inputs found reader old
       → Step old (searches_file path file searched) new → searched.result ≡ Ok tt
-      → (input : Input) × IsFileInput file_remaining separator path file quits input
+      → (input : Input) × IsFileInput file_remaining (facts_of system) separator hyperlinks path file quits input
       × IsAt quits (inputs ++ input ∷ []) (found || searched.has_match) reader new
   file-kept quits inputs found reader old new path file searched at (inl (shown, shows, search)) ok =
       let is-next = next old new (Some file) shown searched search ok quits inputs found reader at in (
         searched-input old new (Some file) shown searched search ok quits inputs found reader at,
         record {
-          shown = shown-by old new path shown at.separates shows;
+          shown = shown-with old new path shown at.separates at.links at.asks_system shows;
           quits_is = refl;
           read = searched-read old new (Some file) shown searched search ok quits inputs found reader at;
         },
@@ -263,10 +282,10 @@ module _ {F M R W X E : Type 0} (output : E → Option (List ℕ)) (facts : M �
       not-searched : (searched : Searched) → IsUnsearched searched → searched.result ≡ Ok tt → ⊥
       not-searched searched (none, (error, memory, is)) ok = not-both searched.result tt _ ok is
 
-  pub input-kept : (inputs : List Input) (found : Bool) (reader : R) (old new : PrintingEngine F M R W X)
+  pub input-kept : (inputs : List Input) (found : Bool) (reader : R) (old new : PrintingEngine S F M R W X)
       (path : Option (Bor (List ℕ))) (searched : Searched) → IsAt false inputs found reader old
       → Step old (searches_input path searched) new → searched.result ≡ Ok tt
-      → (input : Input) × (reader' : R) × IsReaderInput remaining read_step separator path reader input reader'
+      → (input : Input) × (reader' : R) × IsReaderInput remaining read_step (facts_of system) separator path reader input reader'
       × IsAt false (inputs ++ input ∷ []) (found || searched.has_match) reader' new
   input-kept inputs found reader old new path searched at (inl (shown, shows, search)) ok =
       let is-next = next old new None shown searched search ok false inputs found reader at in
@@ -274,7 +293,7 @@ module _ {F M R W X E : Type 0} (output : E → Option (List ℕ)) (facts : M �
         searched-input old new None shown searched search ok false inputs found reader at,
         search.left.reader,
         record {
-          shown = shown-by old new path shown at.separates shows;
+          shown = shown-by old new None path shown at.separates at.asks_system shows;
           quits_is = refl;
           pieces = is-next.taken.pieces;
           read_is = refl;
@@ -291,7 +310,7 @@ module _ {F M R W X E : Type 0} (output : E → Option (List ℕ)) (facts : M �
       absurd (not-both searched.result tt _ ok is)
 
   -- before a text on standard error all is written
-  pub text-kept : (quits : Bool) (inputs : List Input) (found : Bool) (reader : R) (old new : PrintingEngine F M R W X)
+  pub text-kept : (quits : Bool) (inputs : List Input) (found : Bool) (reader : R) (old new : PrintingEngine S F M R W X)
       → IsAt quits inputs found reader old → Step old (says (Ok tt)) new → IsAt quits inputs found reader new
   text-kept quits inputs found reader old new at is =
       let flush = printer-flushed write_step old.writer (Ok tt) new.writer old.printer new.printer is.flushed in
@@ -299,11 +318,13 @@ module _ {F M R W X E : Type 0} (output : E → Option (List ℕ)) (facts : M �
         findings = at.findings;
         texts = at.texts;
         found_is = at.found_is;
-        is_settings = ap (λ (e : PrintingEngine F M R W X). e.searcher.settings) is.others ∙ at.is_settings;
-        asks = ap (λ (e : PrintingEngine F M R W X). e.matcher) is.others ∙ at.asks;
-        detects = ap (λ (e : PrintingEngine F M R W X). e.detection) is.others ∙ at.detects;
-        separates = ap (λ (e : PrintingEngine F M R W X). e.path_separator) is.others ∙ at.separates;
-        reads = ap (λ (e : PrintingEngine F M R W X). e.haystack) is.others ∙ at.reads;
+        is_settings = ap (λ (e : PrintingEngine S F M R W X). e.searcher.settings) is.others ∙ at.is_settings;
+        asks = ap (λ (e : PrintingEngine S F M R W X). e.matcher) is.others ∙ at.asks;
+        detects = ap (λ (e : PrintingEngine S F M R W X). e.detection) is.others ∙ at.detects;
+        separates = ap (λ (e : PrintingEngine S F M R W X). e.path_separator) is.others ∙ at.separates;
+        links = ap (λ (e : PrintingEngine S F M R W X). e.hyperlinks) is.others ∙ at.links;
+        asks_system = ap (λ (e : PrintingEngine S F M R W X). e.system.now) is.others ∙ at.asks_system;
+        reads = ap (λ (e : PrintingEngine S F M R W X). e.haystack) is.others ∙ at.reads;
         after = flush-keeps write_step old.writer new.writer first old.printer new.printer at.findings at.after
             is.flushed;
         held = at.held ++ pending_of old.printer;
@@ -314,29 +335,31 @@ module _ {F M R W X E : Type 0} (output : E → Option (List ℕ)) (facts : M �
       }
 
   pub quits-kept : (quits next : Bool) (inputs : List Input) (found : Bool) (reader : R)
-      (old new : PrintingEngine F M R W X)
+      (old new : PrintingEngine S F M R W X)
       → IsAt quits inputs found reader old → Step old (sets_quits next) new → IsAt next inputs found reader new
   quits-kept quits next inputs found reader old new at is = record {
     findings = at.findings;
     texts = at.texts;
     found_is = at.found_is;
-    is_settings = ap (λ (e : PrintingEngine F M R W X). e.searcher.settings) is
+    is_settings = ap (λ (e : PrintingEngine S F M R W X). e.searcher.settings) is
         ∙ (ap (λ (s : Settings). record s { binary_detection = detection_with next old.detection }) at.is_settings
         ∙ ap (λ (d : BinaryDetection). record settings { binary_detection = detection_with next d }) at.detects);
-    asks = ap (λ (e : PrintingEngine F M R W X). e.matcher) is ∙ at.asks;
-    detects = ap (λ (e : PrintingEngine F M R W X). e.detection) is ∙ at.detects;
-    separates = ap (λ (e : PrintingEngine F M R W X). e.path_separator) is ∙ at.separates;
-    reads = ap (λ (e : PrintingEngine F M R W X). e.haystack) is ∙ at.reads;
+    asks = ap (λ (e : PrintingEngine S F M R W X). e.matcher) is ∙ at.asks;
+    detects = ap (λ (e : PrintingEngine S F M R W X). e.detection) is ∙ at.detects;
+    separates = ap (λ (e : PrintingEngine S F M R W X). e.path_separator) is ∙ at.separates;
+    links = ap (λ (e : PrintingEngine S F M R W X). e.hyperlinks) is ∙ at.links;
+    asks_system = ap (λ (e : PrintingEngine S F M R W X). e.system.now) is ∙ at.asks_system;
+    reads = ap (λ (e : PrintingEngine S F M R W X). e.haystack) is ∙ at.reads;
     after = subst (λ p. IsPrinterAfter first p at.findings)
-        (sym (ap (λ (e : PrintingEngine F M R W X). e.printer) is)) at.after;
+        (sym (ap (λ (e : PrintingEngine S F M R W X). e.printer) is)) at.after;
     held = at.held;
-    holds = ap (λ (e : PrintingEngine F M R W X). contents e.writer) is ∙ at.holds;
+    holds = ap (λ (e : PrintingEngine S F M R W X). contents e.writer) is ∙ at.holds;
     whole = at.whole ∙ ap (λ p. at.held ++ pending_of p)
-        (sym (ap (λ (e : PrintingEngine F M R W X). e.printer) is));
+        (sym (ap (λ (e : PrintingEngine S F M R W X). e.printer) is));
   }
 
   -- at the end all is written
-  pub finishes-kept : (inputs : List Input) (found : Bool) (reader : R) (old new : PrintingEngine F M R W X)
+  pub finishes-kept : (inputs : List Input) (found : Bool) (reader : R) (old new : PrintingEngine S F M R W X)
       → IsAt false inputs found reader old → Step old (finishes (Ok tt)) new → IsDone inputs found reader new
   finishes-kept inputs found reader old new at is =
       let (totals, are, holds) = all-finished write_step contents grows first old.printer old.writer new.writer
@@ -350,7 +373,7 @@ module _ {F M R W X E : Type 0} (output : E → Option (List ℕ)) (facts : M �
         are_totals = are;
         holds = holds ∙ ap Some (sym (append_assoc at.held (pending_of old.printer) totals)
             ∙ (ap (λ all. all ++ totals) (sym at.whole) ∙ append_assoc before at.findings.text totals));
-        reads = ap (λ (e : PrintingEngine F M R W X). e.haystack.reader) is.others
+        reads = ap (λ (e : PrintingEngine S F M R W X). e.haystack.reader) is.others
             ∙ ap (λ (h : Haystack F R). h.reader) at.reads;
       }
     where
@@ -361,17 +384,17 @@ module _ {F M R W X E : Type 0} (output : E → Option (List ℕ)) (facts : M �
       finished-well (Err e) finished (error, same, written) = absurd (not-both (Ok tt) tt error refl same)
 
   -- a call failed with an error of the writer, which was its last call
-  abbrev pub IsCut : Error → PrintingEngine F M R W X → Type 0
+  abbrev pub IsCut : Error → PrintingEngine S F M R W X → Type 0
   IsCut error engine = HasFailedWith write_step error engine.writer
 
-  searched-sound : (old new : PrintingEngine F M R W X) (file : Option F) (shown : Option (Bor (List ℕ)))
+  searched-sound : (old new : PrintingEngine S F M R W X) (file : Option F) (shown : Option PrinterPath)
       (searched : Searched)
       → IsSearched output facts first_at groups_at write_step file_remaining remaining read_step file old shown
       searched new → IsSound old
       → IsSearchedSoundly Step (λ engine. has_failed engine.printer) IsSound IsCut searched new
   searched-sound old new file shown searched search sound = record {
     sound = λ unfailed. record {
-      asks = ap (λ (e : PrintingEngine F M R W X). e.matcher) search.others ∙ sound.asks;
+      asks = ap (λ (e : PrintingEngine S F M R W X). e.matcher) search.others ∙ sound.asks;
       unfailed = unfailed;
     };
     cut = λ failed. elim (printer-after output facts first_at groups_at write_step contents grows
@@ -383,12 +406,12 @@ module _ {F M R W X E : Type 0} (output : E → Option (List ℕ)) (facts : M �
         ];
   }
 
-  unsearched-sound : (old new : PrintingEngine F M R W X) (searched : Searched) → new ≡ old → IsSound old
+  unsearched-sound : (old new : PrintingEngine S F M R W X) (searched : Searched) → new ≡ old → IsSound old
       → IsSearchedSoundly Step (λ engine. has_failed engine.printer) IsSound IsCut searched new
   unsearched-sound old new searched same sound = record {
     sound = λ unfailed. subst IsSound (sym same) sound;
     cut = λ failed. absurd (true≢false (sym failed
-        ∙ (ap (λ (e : PrintingEngine F M R W X). has_failed e.printer) same ∙ sound.unfailed)));
+        ∙ (ap (λ (e : PrintingEngine S F M R W X). has_failed e.printer) same ∙ sound.unfailed)));
   }
 
   -- what is sound stays so, unless the writer fails
@@ -398,14 +421,14 @@ module _ {F M R W X E : Type 0} (output : E → Option (List ℕ)) (facts : M �
     input = λ old new path searched step sound. input-sound old new path searched step sound;
     text = λ old new said step sound. text-sound old new said step sound;
     quits = λ old new quits is sound. record {
-      asks = ap (λ (e : PrintingEngine F M R W X). e.matcher) is ∙ sound.asks;
-      unfailed = ap (λ (e : PrintingEngine F M R W X). has_failed e.printer) is ∙ sound.unfailed;
+      asks = ap (λ (e : PrintingEngine S F M R W X). e.matcher) is ∙ sound.asks;
+      unfailed = ap (λ (e : PrintingEngine S F M R W X). has_failed e.printer) is ∙ sound.unfailed;
     };
     quits-cut = λ old new quits error is cut.
-        subst (HasFailedWith write_step error) (sym (ap (λ (e : PrintingEngine F M R W X). e.writer) is)) cut;
+        subst (HasFailedWith write_step error) (sym (ap (λ (e : PrintingEngine S F M R W X). e.writer) is)) cut;
   }
     where
-      file-sound : (old new : PrintingEngine F M R W X) (path : Option (Bor (List ℕ))) (file : F) (searched : Searched)
+      file-sound : (old new : PrintingEngine S F M R W X) (path : Option (Bor (List ℕ))) (file : F) (searched : Searched)
           → Step old (searches_file path file searched) new → IsSound old
           → IsSearchedSoundly Step (λ engine. has_failed engine.printer) IsSound IsCut searched new
       file-sound old new path file searched (inl (shown, shows, search)) sound =
@@ -413,7 +436,7 @@ module _ {F M R W X E : Type 0} (output : E → Option (List ℕ)) (facts : M �
       file-sound old new path file searched (inr (has, unsearched, same)) sound =
           unsearched-sound old new searched same sound
 
-      input-sound : (old new : PrintingEngine F M R W X) (path : Option (Bor (List ℕ))) (searched : Searched)
+      input-sound : (old new : PrintingEngine S F M R W X) (path : Option (Bor (List ℕ))) (searched : Searched)
           → Step old (searches_input path searched) new → IsSound old
           → IsSearchedSoundly Step (λ engine. has_failed engine.printer) IsSound IsCut searched new
       input-sound old new path searched (inl (shown, shows, search)) sound =
@@ -421,10 +444,10 @@ module _ {F M R W X E : Type 0} (output : E → Option (List ℕ)) (facts : M �
       input-sound old new path searched (inr (has, unsearched, same)) sound =
           unsearched-sound old new searched same sound
 
-      text-sound : (old new : PrintingEngine F M R W X) (said : Result (Unit {0}) Error) → Step old (says said) new
+      text-sound : (old new : PrintingEngine S F M R W X) (said : Result (Unit {0}) Error) → Step old (says said) new
           → IsSound old → MatchResult said (λ _. IsSound new) (λ error. IsCut error new)
       text-sound old new (Ok u) is sound = record {
-        asks = ap (λ (e : PrintingEngine F M R W X). e.matcher) is.others ∙ sound.asks;
+        asks = ap (λ (e : PrintingEngine S F M R W X). e.matcher) is.others ∙ sound.asks;
         unfailed = (printer-flushed write_step old.writer (Ok u) new.writer old.printer new.printer is.flushed).failed
             ∙ sound.unfailed;
       }
@@ -433,15 +456,15 @@ module _ {F M R W X E : Type 0} (output : E → Option (List ℕ)) (facts : M �
           (printer-flushed write_step old.writer (Err error) new.writer old.printer new.printer is.flushed).flushed
 
   -- an engine is sound at the end if its writer hasn't failed
-  pub finishes-sound : (old new : PrintingEngine F M R W X) (result : Result (Unit {0}) Error) → IsSound old
+  pub finishes-sound : (old new : PrintingEngine S F M R W X) (result : Result (Unit {0}) Error) → IsSound old
       → Step old (finishes result) new → has_failed new.printer ≡ false → IsSound new
   finishes-sound old new result sound is unfailed = record {
-    asks = ap (λ (e : PrintingEngine F M R W X). e.matcher) is.others ∙ sound.asks;
+    asks = ap (λ (e : PrintingEngine S F M R W X). e.matcher) is.others ∙ sound.asks;
     unfailed = unfailed;
   }
 
   -- if the end fails, that is with the writer's error, or the writer hasn't failed
-  pub finishes-after : (old new : PrintingEngine F M R W X) (error : Error) → IsSound old
+  pub finishes-after : (old new : PrintingEngine S F M R W X) (error : Error) → IsSound old
       → Step old (finishes (Err error)) new → (has_failed new.printer ≡ false) ⊎ IsCut error new
   finishes-after old new error sound is =
       by is.ended is.is_result (finished-after write_step old.printer old.writer is.ended new.writer new.printer

@@ -4,7 +4,6 @@ use Rattle.std.proofs.Common.{subst₂, sym}
 use Rattle.std.proofs.Common.{◌⊎◌, inl, inr}
 use Rattle.std.specs.Prelude.{◌||◌, Option, Some, Result, Ok, Err, if◌then◌else◌}
 use Rattle.std.specs.Prelude.{is_ok}
-use Rattle.std.specs.Borrow.{Bor}
 use Rattle.std.specs.Global.{Global}
 use Rattle.std.specs.declared.io.Error.{Error}
 use Rattle.std.specs.Io.KnownBytes.{Appends}
@@ -12,6 +11,7 @@ use Rattle.grep_output.specs.Outputs.{OutputCall, taken_by}
 use Rattle.grep_output.specs.PendingTexts.{Flushes, pending_bytes}
 use Rattle.grep_printer.specs.CountedTexts.{counted_rules}
 use Rattle.grep_printer.specs.Formats.{Rules, is_text}
+use Rattle.grep_printer.specs.Hyperlinks.{shown_path}
 use Rattle.grep_printer.specs.JsonEnds.{FailsToPutText, PutsText}
 use Rattle.grep_printer.specs.JsonTexts.{end_text, json_rules, stats_of}
 use Rattle.grep_printer.specs.PrintedSearches.{IsSearchPrinted}
@@ -21,6 +21,7 @@ use Rattle.grep_printer.specs.StandardTexts.{standard_rules}
 use Rattle.grep_printer.specs.StatsSums.{stats_sum}
 use Rattle.grep_printer.specs.SummaryTexts.{summary_rules}
 use Rattle.grep_printer.specs.VimgrepTexts.{vimgrep_rules}
+use Rattle.grep_printer.specs.declared.hyperlinks.PrinterPath.{PrinterPath}
 use Rattle.grep_printer.specs.declared.counted.CountedFormat.{CountedFormat}
 use Rattle.grep_printer.specs.declared.json_printer.JsonFormat.{JsonFormat}
 use Rattle.grep_printer.specs.declared.printed_search.Searched.{Searched}
@@ -140,7 +141,7 @@ module _ {M W E : Type 0} (output : E → Option (List ℕ)) (facts : M → Matc
     → Appends (contents old) (contents new) (taken_by call))
     {R : Type 0} (remaining : R → Option (List ℕ)) (read_step : R → ReadResult → R → Type 0)
     (state : SearcherState) (matcher : M) (lawful : IsLawful (facts matcher) state.settings)
-    (path : Option (Bor (List ℕ))) (reader : R) (writer : W) (searched : Searched) (reader' : R) (writer' : W) where
+    (path : Option PrinterPath) (reader : R) (writer : W) (searched : Searched) (reader' : R) (writer' : W) where
   abbrev After : Result (Unit {0}) (SearchError Global) → Bool → W → Type 0
   After = IsAfter write_step
 
@@ -227,7 +228,7 @@ module _ {M W E : Type 0} (output : E → Option (List ℕ)) (facts : M → Matc
       (written : IsJsonWritten text_at output facts first_at write_step remaining read_step state matcher path reader
       writer old searched reader' writer' new) where
     abbrev end-of : List ℕ
-    end-of = end_text written.ended.path written.ended.format.progress written.elapsed
+    end-of = end_text (shown_path written.ended.path) written.ended.format.progress written.elapsed
 
     -- a search that ends in `Ok` puts the message that it has ended
     record IsJsonEnd : Type 0 where
@@ -285,7 +286,7 @@ module _ {M W E : Type 0} (output : E → Option (List ℕ)) (facts : M → Matc
             found_is = written.has_match;
             elapsed = written.elapsed;
             stats_is = refl;
-            text_is = ap (λ p. put.text ++ end_text p written.ended.format.progress written.elapsed) same;
+            text_is = ap (λ p. put.text ++ end_text (shown_path p) written.ended.format.progress written.elapsed) same;
           };
           put = both-put contents writer written.ended.writer.now writer' (pending_bytes old.printer.pending)
               (pending_bytes written.ended.printer.now.pending) (pending_bytes new.printer.pending) put.text end-of

@@ -123,13 +123,16 @@ good-status scope total unquiet other =
     by true match other = absurd (other refl)
     by false match other = (refl, refl)
 
-module _ {F R W X : Type 0} (output : AllocError → Option (List ℕ)) (contents : W → Option (List ℕ))
+module _ {S F R W X : Type 0} (output : AllocError → Option (List ℕ)) (contents : W → Option (List ℕ))
     (write_step : W → OutputCall → W → Type 0) (say_step : X → OutputCall → X → Type 0)
     (file_remaining : F → Option (List ℕ)) (remaining : R → Option (List ℕ)) (read_step : R → ReadResult → R → Type 0)
-    (folders : FolderFacts) (finds : List ℕ → Result Bool Error → Type 0) (opens : List ℕ → Result F Error → Type 0)
+    (facts_of : S → FolderFacts) (system : S) (finds : List ℕ → Result Bool Error → Type 0) (opens : List ℕ → Result F Error → Type 0)
     (identifies : F → Option FileId → Type 0) (grows : (old new : W) (call : OutputCall) → write_step old call new
     → Appends (contents old) (contents new) (taken_by call)) (before : List ℕ)
     (options : Options) where
+  abbrev folders : FolderFacts
+  folders = facts_of system
+
   -- an answer, unless nobody reads it
   answered : (text : List ℕ) (writer : W) (status : ℕ) (writer' : W) → contents writer ≡ Some before → status ≢ 2
       → IsAnswered write_step text writer status writer'
@@ -144,9 +147,9 @@ module _ {F R W X : Type 0} (output : AllocError → Option (List ℕ)) (content
       (groups_at : M → List ℕ → ℕ → List (Option (ℕ × ℕ))) (regex : Regex) (input : R) (writer : W) (errors : X)
       (status : ℕ) (input' : R) (writer' : W) (held : contents writer ≡ Some before) (other : status ≢ 2)
       (writes : WritesFound options)
-      (run-for : IsRunFor output facts first_at groups_at write_step file_remaining remaining read_step folders finds
+      (run-for : IsRunFor output facts first_at groups_at write_step file_remaining remaining read_step facts_of system finds
       opens identifies options regex input writer errors status input' writer') where
-    abbrev run : IsRunWith output facts first_at groups_at write_step file_remaining remaining read_step folders
+    abbrev run : IsRunWith output facts first_at groups_at write_step file_remaining remaining read_step facts_of system
         finds opens
         identifies options run-for.matcher run-for.template input writer errors status input' writer'
     run = run-for.run
@@ -154,20 +157,20 @@ module _ {F R W X : Type 0} (output : AllocError → Option (List ℕ)) (content
     abbrev settings : Settings
     settings = searcher_settings options
 
-    abbrev Step : PrintingEngine F M R W X → EngineCall F → PrintingEngine F M R W X → Type 0
-    Step = IsEngineStep output facts first_at groups_at write_step file_remaining remaining read_step
+    abbrev Step : PrintingEngine S F M R W X → EngineCall F → PrintingEngine S F M R W X → Type 0
+    Step = IsEngineStep output facts first_at groups_at write_step file_remaining remaining read_step facts_of
 
     abbrev trusted : (terminator : LineTerminator) → (facts run-for.matcher).is_lawful terminator
     trusted = run-for.is_matcher.trusted
 
-    abbrev At : Bool → List Input → Bool → R → PrintingEngine F M R W X → Type 0
+    abbrev At : Bool → List Input → Bool → R → PrintingEngine S F M R W X → Type 0
     At = IsAt output facts first_at groups_at write_step file_remaining remaining read_step contents grows settings
-        (path_separator_of options) run-for.matcher trusted run.first.printer before
+        (path_separator_of options) facts_of system run.first.hyperlinks run-for.matcher trusted run.first.printer before
 
-    abbrev Sound : PrintingEngine F M R W X → Type 0
+    abbrev Sound : PrintingEngine S F M R W X → Type 0
     Sound = IsSound output facts first_at groups_at write_step file_remaining remaining read_step contents grows
         settings
-        (path_separator_of options) run-for.matcher trusted run.first.printer before
+        (path_separator_of options) facts_of system run.first.hyperlinks run-for.matcher trusted run.first.printer before
 
     unquiet : run.scope.quiet ≡ None
     unquiet = ap (λ (s : Scope). s.quiet) run.is_scope.2
@@ -193,6 +196,8 @@ module _ {F R W X : Type 0} (output : AllocError → Option (List ℕ)) (content
       asks = run.begins.asks;
       detects = run.begins.detection;
       separates = run.begins.path_separator;
+      links = refl;
+      asks_system = run.begins.asks_system;
       reads = run.begins.haystack;
       after = begun.0;
       held = before;
@@ -207,48 +212,48 @@ module _ {F R W X : Type 0} (output : AllocError → Option (List ℕ)) (content
     }
 
     abbrev IsFile : Option (Bor (List ℕ)) → F → Bool → Input → Type 0
-    IsFile = IsFileInput file_remaining (path_separator_of options)
+    IsFile = IsFileInput file_remaining folders (path_separator_of options) run.first.hyperlinks
 
     abbrev IsReader : Option (Bor (List ℕ)) → R → Input → R → Type 0
-    IsReader = IsReaderInput remaining read_step (path_separator_of options)
+    IsReader = IsReaderInput remaining read_step folders (path_separator_of options)
 
     kept : StepsKeep folders finds opens identifies Step
         (λ engine. has_failed engine.printer) run.scope IsFile IsReader At
     kept = record {
       file = file-kept output facts first_at groups_at write_step file_remaining remaining read_step contents grows
           settings
-          (path_separator_of options) run-for.matcher trusted run.first.printer before;
+          (path_separator_of options) facts_of system run.first.hyperlinks run-for.matcher trusted run.first.printer before;
       input = input-kept output facts first_at groups_at write_step file_remaining remaining read_step contents grows
-          settings (path_separator_of options) run-for.matcher trusted run.first.printer before;
+          settings (path_separator_of options) facts_of system run.first.hyperlinks run-for.matcher trusted run.first.printer before;
       text = text-kept output facts first_at groups_at write_step file_remaining remaining read_step contents grows
           settings
-          (path_separator_of options) run-for.matcher trusted run.first.printer before;
+          (path_separator_of options) facts_of system run.first.hyperlinks run-for.matcher trusted run.first.printer before;
       quits = quits-kept output facts first_at groups_at write_step file_remaining remaining read_step contents grows
-          settings (path_separator_of options) run-for.matcher trusted run.first.printer before;
+          settings (path_separator_of options) facts_of system run.first.hyperlinks run-for.matcher trusted run.first.printer before;
     }
 
-    abbrev Cut : Error → PrintingEngine F M R W X → Type 0
+    abbrev Cut : Error → PrintingEngine S F M R W X → Type 0
     Cut error engine = HasFailedWith write_step error engine.writer
 
     keep : CallsKeep Step (λ engine. has_failed engine.printer) Sound Cut
     keep = calls-keep output facts first_at groups_at write_step file_remaining remaining read_step contents grows
         settings
-        (path_separator_of options) run-for.matcher trusted run.first.printer before
+        (path_separator_of options) facts_of system run.first.hyperlinks run-for.matcher trusted run.first.printer before
 
     abbrev Written : Type 0
     Written = IsClosed write_step writer' ⊎ HasWritten contents before file_remaining remaining read_step folders finds
         opens identifies facts first_at groups_at options regex input status input' writer'
 
     -- a run that fails has status 2, unless nobody reads its output any more
-    abbrev Failed : Error → PrintingEngine F M R W X → Type 0
+    abbrev Failed : Error → PrintingEngine S F M R W X → Type 0
     Failed error mid = Sound mid ⊎ (Cut error mid ⊎ (error_kind error ≢ BrokenPipe))
 
-    closed : (error : Error) (mid : PrintingEngine F M R W X) → Failed error mid
+    closed : (error : Error) (mid : PrintingEngine S F M R W X) → Failed error mid
         → IsFailing Step (λ engine. has_failed engine.printer) run.scope error mid status run.last
         → IsClosed write_step writer'
     closed error mid ended failing = by status run.last failing other refl
       where
-        by : (status-then : ℕ) (last : PrintingEngine F M R W X)
+        by : (status-then : ℕ) (last : PrintingEngine S F M R W X)
             → IsFailing Step (λ engine. has_failed engine.printer) run.scope error mid status-then last
             → status-then ≢ 2
             → last ≡ run.last → IsClosed write_step writer'
@@ -258,14 +263,14 @@ module _ {F R W X : Type 0} (output : AllocError → Option (List ℕ)) (content
             error,
             broken,
             subst (HasFailedWith write_step error)
-                (ap (λ (e : PrintingEngine F M R W X). e.writer) same ∙ sym run.writer_after) cut,
+                (ap (λ (e : PrintingEngine S F M R W X). e.writer) same ∙ sym run.writer_after) cut,
           )
           | inr (inr unbroken) ↦ absurd (unbroken broken)
         ]
         by _ _ (of_other said moved kind) other same = absurd (other refl)
 
     -- what is known if operands were searched
-    ran : (start : PrintingEngine F M R W X) → At false [] false input start → Sound start
+    ran : (start : PrintingEngine S F M R W X) → At false [] false input start → Sound start
         → AreOperandsSearched folders finds opens identifies Step (λ engine. has_failed engine.printer) run.scope
         run.run.left (paths_of options) start status run.last
         → Written
@@ -292,7 +297,7 @@ module _ {F R W X : Type 0} (output : AllocError → Option (List ℕ)) (content
             (paths_of options) start searched.total searched.mid searched.visited (good none is-well) at in
             let done = finishes-kept output facts first_at groups_at write_step file_remaining remaining read_step
             contents
-            grows settings (path_separator_of options) run-for.matcher trusted run.first.printer before inputs
+            grows settings (path_separator_of options) facts_of system run.first.hyperlinks run-for.matcher trusted run.first.printer before inputs
             searched.total.has_match reader searched.mid run.last now finished in
             inr (record {
               accepted = run.accepted;
@@ -305,6 +310,8 @@ module _ {F R W X : Type 0} (output : AllocError → Option (List ℕ)) (content
               are_separators = run.begins.lent;
               colors = run.begins.chosen;
               are_colors = run.begins.colored;
+              hyperlinks = run.first.hyperlinks;
+              are_hyperlinks = run.begins.hyperlinks;
               printer = run.first.printer;
               is_printer = run.begins.printer;
               scope = run.scope;
@@ -346,16 +353,16 @@ module _ {F R W X : Type 0} (output : AllocError → Option (List ℕ)) (content
             (subst (λ s. IsFailing Step (λ engine. has_failed engine.printer) run.scope error mid s run.last) (sym is)
             failing))
           where
-            after : (mid : PrintingEngine F M R W X) (error : Error) → Sound searched.mid
+            after : (mid : PrintingEngine S F M R W X) (error : Error) → Sound searched.mid
                 → Step searched.mid (finishes (Err error)) mid → Failed error mid
             after mid error sound finishing = elim
                 (finishes-after output facts first_at groups_at write_step file_remaining
-                remaining read_step contents grows settings (path_separator_of options) run-for.matcher trusted
+                remaining read_step contents grows settings (path_separator_of options) facts_of system run.first.hyperlinks run-for.matcher trusted
                 run.first.printer before searched.mid mid error sound finishing) [
                   | inl still ↦ inl (finishes-sound output facts first_at groups_at write_step file_remaining remaining
                       read_step
                       contents grows settings
-                      (path_separator_of options) run-for.matcher trusted run.first.printer before
+                      (path_separator_of options) facts_of system run.first.hyperlinks run-for.matcher trusted run.first.printer before
                       searched.mid mid (Err error) sound finishing still)
                   | inr cut ↦ inr (inl cut)
                 ]
@@ -387,30 +394,33 @@ module _ {F R W X : Type 0} (output : AllocError → Option (List ℕ)) (content
             (λ engine. has_failed engine.printer) Sound Cut f run.run.begun) is begun-ends) failing)
 
 -- a whole run
-module _ {F R W X : Type 0} (output : AllocError → Option (List ℕ)) (contents : W → Option (List ℕ))
+module _ {S F R W X : Type 0} (output : AllocError → Option (List ℕ)) (contents : W → Option (List ℕ))
     (write_step : W → OutputCall → W → Type 0) (say_step : X → OutputCall → X → Type 0)
     (file_remaining : F → Option (List ℕ)) (remaining : R → Option (List ℕ)) (read_step : R → ReadResult → R → Type 0)
-    (folders : FolderFacts) (finds : List ℕ → Result Bool Error → Type 0) (opens : List ℕ → Result F Error → Type 0)
+    (facts_of : S → FolderFacts) (system : S) (finds : List ℕ → Result Bool Error → Type 0) (opens : List ℕ → Result F Error → Type 0)
     (identifies : F → Option FileId → Type 0) (arguments : List (Vec ℕ Global)) (streams : Streams) (input : R)
     (writer : W) (errors : X) (status : ℕ) (input' : R) (writer' : W) (errors' : X) where
+  abbrev own-folders : FolderFacts
+  own-folders = facts_of system
+
   module _ (grows : (old new : W) (call : OutputCall) → write_step old call new
       → Appends (contents old) (contents new) (taken_by call)) (before : List ℕ) (held : contents writer ≡ Some before)
       (other : status ≢ 2) where
     abbrev Ended : Options → Type 0
     Ended options = IsClosed write_step writer' ⊎ HasEnded contents before file_remaining remaining read_step
-        folders finds
+        own-folders finds
         opens identifies options input status input' writer'
 
     by-answer : (options : Options) (text : List ℕ) → IsAnswer options text → input' ≡ input
         → IsAnswered write_step text writer status writer' → Ended options
     by-answer options text is same answer = elim (answered output contents write_step say_step file_remaining remaining
-        read_step folders finds opens identifies grows before options text writer status writer' held other answer) [
+        read_step facts_of system finds opens identifies grows before options text writer status writer' held other answer) [
           | inl unread ↦ inl unread
           | inr (zero, taken) ↦ inr (of_answer text is zero same taken)
         ]
 
     by-options : (options : Options) (said : X)
-        → IsOptionsRun output write_step say_step file_remaining remaining read_step folders finds opens identifies
+        → IsOptionsRun output write_step say_step file_remaining remaining read_step facts_of system finds opens identifies
         options
         input writer said status input' writer' errors'
         → Ended options
@@ -427,13 +437,13 @@ module _ {F R W X : Type 0} (output : AllocError → Option (List ℕ)) (content
         by (has options Quiet) (has options Files) refl refl
       where
         Found : Type 0
-        Found = HasEnded contents before file_remaining remaining read_step folders finds opens identifies options input
+        Found = HasEnded contents before file_remaining remaining read_step own-folders finds opens identifies options input
             status input' writer'
 
         searched : (WritesFound options
-            → HasWritten contents before file_remaining remaining read_step folders finds opens identifies {M = Literal}
+            → HasWritten contents before file_remaining remaining read_step own-folders finds opens identifies {M = Literal}
             literal_facts literal_first_at literal_groups_at options whole.regex mid status input' writer'
-            ⊎ HasWritten contents before file_remaining remaining read_step folders finds opens identifies
+            ⊎ HasWritten contents before file_remaining remaining read_step own-folders finds opens identifies
             {M = Named (naming_of whole.regex)} named_facts named_first_at named_groups_at options whole.regex mid
             status input' writer')
             → Ended options
@@ -448,24 +458,24 @@ module _ {F R W X : Type 0} (output : AllocError → Option (List ℕ)) (content
             writing : WritesFound options → Ended options
             writing writes = elim whole.run [
               | inl literal ↦ elim (run-written output contents write_step say_step file_remaining remaining read_step
-                  folders finds opens identifies grows before options _ _ _ whole.regex mid writer said status input'
+                  facts_of system finds opens identifies grows before options _ _ _ whole.regex mid writer said status input'
                   writer' held other writes literal) [
                     | inl unread ↦ inl unread
                     | inr found ↦ searched (λ writes. inl found)
                   ]
               | inr named ↦ elim (run-written output contents write_step say_step file_remaining remaining read_step
-                  folders finds opens identifies grows before options _ _ _ whole.regex mid writer said status input'
+                  facts_of system finds opens identifies grows before options _ _ _ whole.regex mid writer said status input'
                   writer' held other writes named) [
                     | inl unread ↦ inl unread
                     | inr found ↦ searched (λ writes. inr found)
                   ]
             ]
 
-    by-words : IsProgramRun output write_step say_step file_remaining remaining read_step folders finds opens identifies
+    by-words : IsProgramRun output write_step say_step file_remaining remaining read_step facts_of system finds opens identifies
         arguments streams input writer errors status input' writer' errors'
         → IsClosed write_step writer'
-        ⊎ ((options : Options) × AreOptionsFor say_step folders arguments streams errors options
-        × HasEnded contents before file_remaining remaining read_step folders finds opens identifies options input
+        ⊎ ((options : Options) × AreOptionsFor say_step own-folders arguments streams errors options
+        × HasEnded contents before file_remaining remaining read_step own-folders finds opens identifies options input
         status
         input' writer')
     by-words (of_fault words said refusal failure are reads refused) = absurd (other refused.refused.status_is)
@@ -498,8 +508,8 @@ module _ {F R W X : Type 0} (output : AllocError → Option (List ℕ)) (content
   -- it does what its arguments ask for
   pub as-asked : ((old new : W) (call : OutputCall) → write_step old call new
       → Appends (contents old) (contents new) (taken_by call))
-      → IsProgramRun output write_step say_step file_remaining remaining read_step folders finds opens identifies
+      → IsProgramRun output write_step say_step file_remaining remaining read_step facts_of system finds opens identifies
       arguments streams input writer errors status input' writer' errors'
-      → DoesAsAsked contents file_remaining remaining read_step folders finds opens identifies write_step say_step
+      → DoesAsAsked contents file_remaining remaining read_step own-folders finds opens identifies write_step say_step
       arguments streams input writer errors status input' writer'
   as-asked grows ran before held other = by-words grows before held other ran

@@ -3,7 +3,6 @@ use Rattle.std.proofs.Common.{◌≡◌, ◌∙◌, ℕ, Bool, true, false, List
 use Rattle.std.proofs.Common.{refl, subst, sym}
 use Rattle.std.proofs.Common.{◌⊎◌, inl, inr, true≢false}
 use Rattle.std.specs.Prelude.{◌||◌, MatchBool, None, Some, Result, Ok, Err, is_ok}
-use Rattle.std.specs.Borrow.{Bor}
 use Rattle.std.specs.Global.{Global}
 use Rattle.std.specs.List.{concat}
 use Rattle.std.specs.Io.KnownBytes.{Appends}
@@ -15,6 +14,7 @@ use Rattle.grep_printer.specs.PrintedSearches.{IsInputPrinted, IsPlanPrinted, Is
 use Rattle.grep_printer.specs.PrintedSearches.{PrintsFirst, PrintsPlan, of_input, of_matcher, of_plan, of_reading}
 use Rattle.grep_printer.specs.PrintedSearches.{IsPointOfAll, IsSourcePrinted, search_errors}
 use Rattle.grep_printer.specs.PrinterSteps.{IsCutShort, scene_of}
+use Rattle.grep_printer.specs.declared.hyperlinks.PrinterPath.{PrinterPath}
 use Rattle.grep_printer.specs.declared.printer.Printer.{Printer}
 use Rattle.grep_printer.specs.declared.printer.PrinterSink.{PrinterSink}
 use Rattle.grep_searcher.specs.Meanings.{MatcherFacts}
@@ -169,7 +169,7 @@ module _ {F M W E : Type 0} (rules : Rules F) (output : E → Option (List ℕ))
         absurd (not-both (Ok tt) tt e refl is)
 
     -- what was read of a reader, and the text of its search
-    pub record IsTextPut (matcher : M) (path : Option (Bor (List ℕ))) (reader : R) (writer : W) (old : Printer F)
+    pub record IsTextPut (matcher : M) (path : Option PrinterPath) (reader : R) (writer : W) (old : Printer F)
         (last : F) (reader' : R) (writer' : W) (new : Printer F) : Type 0 where
       pub taken : Taken remaining read_step reader reader'
       pub text : List ℕ
@@ -203,7 +203,7 @@ module _ {F M W E : Type 0} (rules : Rules F) (output : E → Option (List ℕ))
           (read, is-read),
         )
 
-    module _ (matcher : M) (path : Option (Bor (List ℕ))) (reader : R) (writer : W) (old : Printer F) (reader' : R)
+    module _ (matcher : M) (path : Option PrinterPath) (reader : R) (writer : W) (old : Printer F) (reader' : R)
         (begun ended : PrinterSink F M W) (begins : IsSinkFor rules old writer matcher path begun)
         (lawful : IsLawful (facts matcher) state.settings) where
       abbrev Sought : Result (Unit {0}) (SearchError Global) → Type 0

@@ -1,5 +1,6 @@
 -- Options whose values are not refused.
 use Rattle.std.specs.Prelude.{◌≡◌, false}
+use Rattle.linegrep_cli.specs.HyperlinkOptions.{IsFormatAccepted}
 use Rattle.linegrep_cli.specs.PathSeparators.{refuses_path_separator}
 use Rattle.linegrep_cli.specs.PatternOptions.{refuses_size_limits}
 use Rattle.linegrep_cli.specs.RunScopes.{order_for}
@@ -8,10 +9,11 @@ use Rattle.linegrep_cli.specs.declared.options.Options.{Options}
 use Rattle.linegrep_files.specs.FolderFacts.{FolderFacts}
 use Rattle.linegrep_files.specs.Orders.{HasOrder}
 
--- the label of the encoding is known, the separator of paths is one byte, the limits of sizes are
--- sizes, and the system has the order of files
+-- the label of the encoding is known, the separator of paths is one byte, the format of links is
+-- one, the limits of sizes are sizes, and the system has the order of files
 pub record AreAccepted (folders : FolderFacts) (options : Options) : Type 0 where
   pub label : refuses_label options ≡ false
   pub path_separator : refuses_path_separator options ≡ false
+  pub hyperlink_format : IsFormatAccepted options
   pub size_limits : refuses_size_limits options ≡ false
   pub order : HasOrder folders.times (order_for options)

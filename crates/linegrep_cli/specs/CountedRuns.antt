@@ -1,6 +1,5 @@
 -- What a run writes and counts, if a format prints its searches.
 use Rattle.std.specs.Prelude.{◌≡◌, ℕ, List, MatchBool, MatchResult, Option, Result, Ok, Err}
-use Rattle.std.specs.Borrow.{Bor}
 use Rattle.std.specs.Global.{Global}
 use Rattle.std.specs.declared.io.Error.{Error}
 use Rattle.grep_output.specs.Outputs.{OutputCall}
@@ -14,6 +13,7 @@ use Rattle.grep_printer.specs.JsonEnds.{FailsToPutText, PutsText}
 use Rattle.grep_printer.specs.PrintedSearches.{IsPrintedBy}
 use Rattle.grep_printer.specs.StatsSums.{stats_sum}
 use Rattle.grep_printer.specs.declared.counted.CountedFormat.{CountedFormat}
+use Rattle.grep_printer.specs.declared.hyperlinks.PrinterPath.{PrinterPath}
 use Rattle.grep_printer.specs.declared.printer.Printer.{Printer}
 use Rattle.grep_printer.specs.declared.stats.Stats.{Stats}
 use Rattle.linegrep_cli.specs.WriterFlushes.{IsWriterFlushed}
@@ -29,7 +29,7 @@ module _ {F M W E : Type 0} (rules : Rules F) (output : E → Option (List ℕ))
     (facts : M → MatcherFacts E) (first_at : M → List ℕ → ℕ → Option (ℕ × ℕ))
     (write_step : W → OutputCall → W → Type 0) {R : Type 0} (remaining : R → Option (List ℕ))
     (read_step : R → ReadResult → R → Type 0) (state : SearcherState) (matcher : M)
-    (path : Option (Bor (List ℕ))) where
+    (path : Option PrinterPath) where
   -- a search is printed by a format, and counted
   pub record IsCountedSearch (reader : R) (writer : W) (old : CountedRun F) (searched : Searched)
       (reader' : R) (writer' : W) (new : CountedRun F) : Type 0 where

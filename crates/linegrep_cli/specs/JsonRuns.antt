@@ -1,18 +1,19 @@
 -- What a run writes, if its searches are written as messages in JSON.
 use Rattle.std.specs.Prelude.{◌≡◌, ℕ, List, MatchResult, Option, Result, Ok, Err}
-use Rattle.std.specs.Borrow.{Bor}
 use Rattle.std.specs.Global.{Global}
 use Rattle.grep_output.specs.Outputs.{OutputCall}
 use Rattle.grep_searcher.specs.Meanings.{MatcherFacts}
 use Rattle.grep_searcher.specs.Plans.{SearcherState}
 use Rattle.grep_searcher.specs.Source.{ReadResult}
 use Rattle.grep_searcher.specs.declared.SearchError.{SearchError}
+use Rattle.grep_printer.specs.Hyperlinks.{shown_path}
 use Rattle.grep_printer.specs.JsonEnds.{FailsToPutText, PutsText}
 use Rattle.grep_printer.specs.JsonMessages.{json_line, summary_json}
 use Rattle.grep_printer.specs.JsonTexts.{end_text, json_rules, stats_of}
 use Rattle.grep_printer.specs.ReplacerTexts.{TextAt}
 use Rattle.grep_printer.specs.StatsSums.{stats_sum}
 use Rattle.grep_printer.specs.declared.json_printer.JsonFormat.{JsonFormat}
+use Rattle.grep_printer.specs.declared.hyperlinks.PrinterPath.{PrinterPath}
 use Rattle.grep_printer.specs.declared.printer.Printer.{Printer}
 use Rattle.grep_printer.specs.declared.printer.PrinterSink.{PrinterSink}
 use Rattle.grep_printer.specs.declared.stats.Stats.{Stats}
@@ -35,9 +36,9 @@ module _ {W : Type 0} (write_step : W → OutputCall → W → Type 0) where
   IsEndPut sink (Ok u) elapsed counts writer new = MatchResult counts
       (λ stats. (stats ≡ stats_of sink.format.progress elapsed)
       × PutsText write_step sink.writer.now sink.printer.now
-      (end_text sink.path sink.format.progress elapsed) writer new)
+      (end_text (shown_path sink.path) sink.format.progress elapsed) writer new)
       (λ e. FailsToPutText write_step sink.writer.now sink.printer.now
-      (end_text sink.path sink.format.progress elapsed) e writer new)
+      (end_text (shown_path sink.path) sink.format.progress elapsed) e writer new)
   IsEndPut sink (Err e) elapsed counts writer new =
       (counts ≡ Err e) × (writer ≡ sink.writer.now) × (new ≡ sink.printer.now)
 
@@ -53,7 +54,7 @@ module _ {T M W E : Type 0} (text_at : T → TextAt) (output : E → Option (Lis
     (facts : M → MatcherFacts E)
     (first_at : M → List ℕ → ℕ → Option (ℕ × ℕ)) (write_step : W → OutputCall → W → Type 0)
     {R : Type 0} (remaining : R → Option (List ℕ)) (read_step : R → ReadResult → R → Type 0)
-    (state : SearcherState) (matcher : M) (path : Option (Bor (List ℕ))) where
+    (state : SearcherState) (matcher : M) (path : Option PrinterPath) where
   -- a search is written as messages, with what would replace its matches
   pub record IsJsonWritten (reader : R) (writer : W) (old : JsonRun T) (searched : Searched)
       (reader' : R) (writer' : W) (new : JsonRun T) : Type 0 where

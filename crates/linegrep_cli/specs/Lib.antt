@@ -8,6 +8,7 @@ pub mod EngineCalls
 pub mod EngineSteps
 pub mod FileChoices
 pub mod Haystacks
+pub mod HyperlinkOptions
 pub mod JsonRuns
 pub mod NamedPatterns
 pub mod OperandRuns

@@ -17,6 +17,7 @@ use Rattle.linegrep_options.specs.declared.option_id.OptionId.TheVariants.{DfaSi
 use Rattle.linegrep_options.specs.declared.option_id.OptionId.TheVariants.{FieldContextSeparator}
 use Rattle.linegrep_options.specs.declared.option_id.OptionId.TheVariants.{FieldMatchSeparator}
 use Rattle.linegrep_options.specs.declared.option_id.OptionId.TheVariants.{File, Files, Glob, Iglob}
+use Rattle.linegrep_options.specs.declared.option_id.OptionId.TheVariants.{HyperlinkFormat}
 use Rattle.linegrep_options.specs.declared.option_id.OptionId.TheVariants.{IgnoreFile}
 use Rattle.linegrep_options.specs.declared.option_id.OptionId.TheVariants.{MaxColumns, MaxCount}
 use Rattle.linegrep_options.specs.declared.option_id.OptionId.TheVariants.{MaxDepth}
@@ -111,6 +112,7 @@ pub record AreOptions (uses : Bor (List Use)) (lists : Lists) (streams : Streams
     pub field_match_separator :
         options.field_match_separator ≡ last_value uses.now FieldMatchSeparator
     pub path_separator : options.path_separator ≡ last_value uses.now PathSeparator
+    pub hyperlink_format : options.hyperlink_format ≡ last_value uses.now HyperlinkFormat
     pub regex_size_limit : options.regex_size_limit ≡ last_value uses.now RegexSizeLimit
     pub dfa_size_limit : options.dfa_size_limit ≡ last_value uses.now DfaSizeLimit
     pub replace : options.replace ≡ last_value uses.now Replace

@@ -1,7 +1,6 @@
 -- What the printer of a run writes in a search, when it is flushed, and at the end of all.
 use Rattle.std.specs.Prelude.{◌≡◌, ℕ, List, Option}
 use Rattle.std.specs.Prelude.{Result, Ok, Err}
-use Rattle.std.specs.Borrow.{Bor}
 use Rattle.std.specs.Global.{Global}
 use Rattle.std.specs.declared.io.Error.{Error}
 use Rattle.grep_output.specs.Outputs.{OutputCall}
@@ -24,6 +23,7 @@ use Rattle.linegrep_cli.specs.declared.printers.Printer.{Printer}
 use Rattle.linegrep_cli.specs.declared.printers.Printer.TheVariants.{Json, Lines, Parts}
 use Rattle.linegrep_cli.specs.declared.printers.Printer.TheVariants.{ReplacedLines}
 use Rattle.linegrep_cli.specs.declared.printers.Printer.TheVariants.{ReplacedParts, Summary}
+use Rattle.grep_printer.specs.declared.hyperlinks.PrinterPath.{PrinterPath}
 use Rattle.grep_printer.specs.declared.printed_search.Searched.{Searched}
 
 module _ {M W E : Type 0} (output : E → Option (List ℕ)) (facts : M → MatcherFacts E)
@@ -31,7 +31,7 @@ module _ {M W E : Type 0} (output : E → Option (List ℕ)) (facts : M → Matc
     (groups_at : M → List ℕ → ℕ → List (Option (ℕ × ℕ)))
     (write_step : W → OutputCall → W → Type 0) {R : Type 0} (remaining : R → Option (List ℕ))
     (read_step : R → ReadResult → R → Type 0)
-    (state : SearcherState) (matcher : M) (path : Option (Bor (List ℕ))) where
+    (state : SearcherState) (matcher : M) (path : Option PrinterPath) where
   -- what a search of a source writes, by what is written of searches
   abbrev pub IsSearchWritten : R → W → Printer M → Searched → R → W → Printer M → Type 0
   IsSearchWritten reader writer (Lines old) searched reader' writer' =

@@ -13,15 +13,18 @@ use Rattle.grep_searcher.specs.declared.BinaryDetection.{BinaryDetection}
 use Rattle.grep_searcher.specs.declared.BinaryDetection.TheVariants.{Convert, Quit}
 use Rattle.grep_searcher.specs.declared.SearchError.{SearchError}
 use Rattle.grep_searcher.specs.declared.SearchError.TheVariants.{Io}
+use Rattle.grep_printer.specs.declared.hyperlinks.HyperlinkConfig.{HyperlinkConfig}
+use Rattle.grep_printer.specs.declared.hyperlinks.PrinterPath.{PrinterPath}
 use Rattle.linegrep_cli.specs.EngineCalls.{EngineCall, finishes, lists, says, searches_file}
 use Rattle.linegrep_cli.specs.EngineCalls.{searches_input, sets_quits}
 use Rattle.linegrep_cli.specs.EngineSteps.{IsWrittenError}
 use Rattle.linegrep_cli.specs.Haystacks.{IsPulled, remaining_of}
-use Rattle.linegrep_cli.specs.PathSeparators.{IsShown}
+use Rattle.linegrep_cli.specs.HyperlinkOptions.{IsPathShown}
 use Rattle.linegrep_cli.specs.PrinterSearches.{IsFinished, IsFlushed, IsSearchWritten}
 use Rattle.linegrep_cli.specs.declared.engine.PrintingEngine.{PrintingEngine}
 use Rattle.linegrep_cli.specs.declared.haystacks.Haystack.{Haystack}
 use Rattle.grep_printer.specs.declared.printed_search.Searched.{Searched}
+use Rattle.linegrep_files.specs.FolderFacts.{FolderFacts}
 
 -- what is done about a binary file, by whether its search ends once it is found to be binary
 abbrev pub detection_with : Bool → BinaryDetection → BinaryDetection
@@ -43,18 +46,19 @@ abbrev pub IsWrittenResult : Result (Unit {0}) (SearchError Global) → Result (
 IsWrittenResult (Ok u) result = result ≡ Ok tt
 IsWrittenResult (Err e) result = (error : Error) × (result ≡ Err error) × IsWrittenError e error
 
--- something is done with a path as it is written; or there is no memory for that path, and nothing
--- is done
-abbrev pub IsDoneShown : {F M R W X : Type 0} → (PrintingEngine F M R W X → Option (Bor (List ℕ))
-    → Searched → PrintingEngine F M R W X → Type 0) → Option (Bor (List ℕ))
-    → PrintingEngine F M R W X
-    → Searched → PrintingEngine F M R W X → Type 0
-IsDoneShown IsDone path old searched new =
-    ((shown : Option (Bor (List ℕ))) × IsShown old.path_separator path shown
+-- something is done with a path as it is written, with these links; or there is no memory for that
+-- path, and nothing is done
+abbrev pub IsDoneShown : {S F M R W X : Type 0} → (S → FolderFacts) → Option (Bor HyperlinkConfig)
+    → (PrintingEngine S F M R W X → Option PrinterPath → Searched → PrintingEngine S F M R W X
+    → Type 0) → Option (Bor (List ℕ)) → PrintingEngine S F M R W X → Searched
+    → PrintingEngine S F M R W X → Type 0
+IsDoneShown facts_of hyperlinks IsDone path old searched new =
+    ((shown : Option PrinterPath)
+    × IsPathShown (facts_of old.system.now) old.path_separator hyperlinks path shown
     × IsDone old shown searched new)
     ⊎ ((is_some old.path_separator ≡ true) × IsUnsearched searched × (new ≡ old))
 
-module _ {F M R W X E : Type 0} (output : E → Option (List ℕ)) (facts : M → MatcherFacts E)
+module _ {S F M R W X E : Type 0} (output : E → Option (List ℕ)) (facts : M → MatcherFacts E)
     (first_at : M → List ℕ → ℕ → Option (ℕ × ℕ))
     (groups_at : M → List ℕ → ℕ → List (Option (ℕ × ℕ)))
     (write_step : W → OutputCall → W → Type 0)
@@ -62,8 +66,8 @@ module _ {F M R W X E : Type 0} (output : E → Option (List ℕ)) (facts : M �
     (read_step : R → ReadResult → R → Type 0) where
   -- a file is searched, or without one standard input, with the engine's settings and matcher. What
   -- the engine's printer makes of it is written
-  pub record IsSearched (file : Option F) (old : PrintingEngine F M R W X)
-      (path : Option (Bor (List ℕ))) (searched : Searched) (new : PrintingEngine F M R W X)
+  pub record IsSearched (file : Option F) (old : PrintingEngine S F M R W X)
+      (path : Option PrinterPath) (searched : Searched) (new : PrintingEngine S F M R W X)
       : Type 0 where
     pub left : Haystack F R
     pub written : IsSearchWritten output facts first_at groups_at write_step
@@ -80,8 +84,8 @@ module _ {F M R W X E : Type 0} (output : E → Option (List ℕ)) (facts : M �
 
   -- a path is written as the path of a file with a match. For that a line is searched which always
   -- matches
-  pub record IsPathWritten (old : PrintingEngine F M R W X) (path : Option (Bor (List ℕ)))
-      (searched : Searched) (new : PrintingEngine F M R W X) : Type 0 where
+  pub record IsPathWritten (old : PrintingEngine S F M R W X) (path : Option PrinterPath)
+      (searched : Searched) (new : PrintingEngine S F M R W X) : Type 0 where
     pub line : Bor (List ℕ)
     pub left : Bor (List ℕ)
     pub is_line : line.now ≡ 120 ∷ 10 ∷ []
@@ -96,8 +100,8 @@ module _ {F M R W X E : Type 0} (output : E → Option (List ℕ)) (facts : M �
     }
 
   -- before a text on standard error, what was found so far is written
-  pub record IsSaidAfter (old : PrintingEngine F M R W X) (result : Result (Unit {0}) Error)
-      (new : PrintingEngine F M R W X) : Type 0 where
+  pub record IsSaidAfter (old : PrintingEngine S F M R W X) (result : Result (Unit {0}) Error)
+      (new : PrintingEngine S F M R W X) : Type 0 where
     pub flushed : IsFlushed write_step old.writer old.printer result new.writer new.printer
     pub others : new ≡ record old {
       printer = new.printer;
@@ -106,28 +110,28 @@ module _ {F M R W X E : Type 0} (output : E → Option (List ℕ)) (facts : M �
     }
 
   -- all is written in the end
-  pub record IsAllWritten (old : PrintingEngine F M R W X) (result : Result (Unit {0}) Error)
-      (new : PrintingEngine F M R W X) : Type 0 where
+  pub record IsAllWritten (old : PrintingEngine S F M R W X) (result : Result (Unit {0}) Error)
+      (new : PrintingEngine S F M R W X) : Type 0 where
     pub ended : Result (Unit {0}) (SearchError Global)
     pub finished : IsFinished write_step old.writer old.printer ended new.writer new.printer
     pub is_result : IsWrittenResult ended result
     pub others : new ≡ record old { printer = new.printer; writer = new.writer }
 
-  -- what one call does
-  abbrev pub IsEngineStep : PrintingEngine F M R W X → EngineCall F → PrintingEngine F M R W X
-      → Type 0
-  IsEngineStep old (searches_file path file searched) new =
-      IsDoneShown (IsSearched (Some file)) path old searched new
-  IsEngineStep old (searches_input path searched) new =
-      IsDoneShown (IsSearched None) path old searched new
-  IsEngineStep old (lists path searched) new =
-      IsDoneShown IsPathWritten (Some path) old searched new
-  IsEngineStep old (says result) new = IsSaidAfter old result new
-  IsEngineStep old (sets_quits quits) new = new ≡ record old {
+  -- what one call does, by what a system may say. Standard input has no link
+  abbrev pub IsEngineStep : (S → FolderFacts) → PrintingEngine S F M R W X → EngineCall F
+      → PrintingEngine S F M R W X → Type 0
+  IsEngineStep facts_of old (searches_file path file searched) new =
+      IsDoneShown facts_of old.hyperlinks (IsSearched (Some file)) path old searched new
+  IsEngineStep facts_of old (searches_input path searched) new =
+      IsDoneShown facts_of None (IsSearched None) path old searched new
+  IsEngineStep facts_of old (lists path searched) new =
+      IsDoneShown facts_of old.hyperlinks IsPathWritten (Some path) old searched new
+  IsEngineStep facts_of old (says result) new = IsSaidAfter old result new
+  IsEngineStep facts_of old (sets_quits quits) new = new ≡ record old {
     searcher = record old.searcher {
       settings = record old.searcher.settings {
         binary_detection = detection_with quits old.detection;
       };
     };
   }
-  IsEngineStep old (finishes result) new = IsAllWritten old result new
+  IsEngineStep facts_of old (finishes result) new = IsAllWritten old result new

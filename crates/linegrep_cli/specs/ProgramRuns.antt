@@ -110,10 +110,10 @@ module _ {R : Type 0} (remaining : R → Option (List ℕ)) (read_step : R → R
         → LackPatterns remaining read_step folders.reads options input input'
         → AreRefused options input input'
 
-module _ {F R W X : Type 0} (output : AllocError → Option (List ℕ))
+module _ {S F R W X : Type 0} (output : AllocError → Option (List ℕ))
     (write_step : W → OutputCall → W → Type 0) (say_step : X → OutputCall → X → Type 0)
     (file_remaining : F → Option (List ℕ)) (remaining : R → Option (List ℕ))
-    (read_step : R → ReadResult → R → Type 0) (folders : FolderFacts)
+    (read_step : R → ReadResult → R → Type 0) (facts_of : S → FolderFacts) (system : S)
     (finds : List ℕ → Result Bool Error → Type 0) (opens : List ℕ → Result F Error → Type 0)
     (identifies : F → Option FileId → Type 0) where
   -- what the program does by its options. A text that is asked for is written; otherwise the list
@@ -135,18 +135,19 @@ module _ {F R W X : Type 0} (output : AllocError → Option (List ℕ))
         → IsOptionsRun options input writer errors status input' writer' errors'
     of_refusal : {status : ℕ} {input' : R} {writer' : W} {errors' : X} (mid : R) (failure : Failure)
         → text_asked options ≡ None → (has_cause failure ≡ true
-        → AreRefused remaining read_step folders options input mid)
+        → AreRefused remaining read_step (facts_of system) options input mid)
         → IsRefusal say_step mid writer errors failure status input' writer' errors'
         → IsOptionsRun options input writer errors status input' writer' errors'
     of_search : {status : ℕ} {input' : R} {writer' : W} {errors' : X}
         (patterns : List (String Global)) (mid : R)
         → text_asked options ≡ None → has options TypeList ≡ false
         → exclude_each_other options ≡ false
-        → ArePatternsFor remaining read_step folders options input (map string_bytes patterns) mid
-        → IsRefusedFor say_step folders options patterns mid writer errors status input' writer'
-        errors'
-        ⊎ IsWholeRun output write_step file_remaining remaining read_step folders finds opens
-        identifies options patterns mid writer errors status input' writer'
+        → ArePatternsFor remaining read_step (facts_of system) options input
+        (map string_bytes patterns) mid
+        → IsRefusedFor say_step (facts_of system) options patterns mid writer errors status input'
+        writer' errors'
+        ⊎ IsWholeRun output write_step file_remaining remaining read_step facts_of system finds
+        opens identifies options patterns mid writer errors status input' writer'
         → IsOptionsRun options input writer errors status input' writer' errors'
 
   -- what the program does by parsed arguments: what the options say, unless memory is out
@@ -171,7 +172,7 @@ module _ {F R W X : Type 0} (output : AllocError → Option (List ℕ))
       (writer : W) (errors : X) : ℕ → R → W → X → Type 0 where
     of_fault : {status : ℕ} {input' : R} {writer' : W} {errors' : X} (words : List (Vec ℕ Global))
         (said : X) (refusal : Refusal) (failure : Failure)
-        → AreWords say_step folders arguments errors words said
+        → AreWords say_step (facts_of system) arguments errors words said
         → reading_of (texts words) ≡ Refused refusal
         → IsRefusal say_step input writer said failure status input' writer' errors'
         → IsProgramRun arguments streams input writer errors status input' writer' errors'
@@ -180,7 +181,8 @@ module _ {F R W X : Type 0} (output : AllocError → Option (List ℕ))
         → IsRefusal say_step input writer errors failure status input' writer' errors'
         → IsProgramRun arguments streams input writer errors status input' writer' errors'
     of_parsed : {status : ℕ} {input' : R} {writer' : W} {errors' : X} (words : List (Vec ℕ Global))
-        (said : X) (parsed : Parsed) → AreWords say_step folders arguments errors words said
+        (said : X) (parsed : Parsed)
+        → AreWords say_step (facts_of system) arguments errors words said
         → AreRead words parsed
         → IsParsedRun parsed streams input writer said status input' writer' errors'
         → IsProgramRun arguments streams input writer errors status input' writer' errors'

@@ -9,6 +9,7 @@ use Rattle.grep_regex.specs.declared.error.Error.{Error as PatternError}
 use Rattle.grep_regex.specs.declared.error.Error.TheVariants.{Memory}
 use Rattle.linegrep_cli.specs.ColorOptions.{refuses_colors}
 use Rattle.linegrep_cli.specs.FileChoices.{AreFileOptions}
+use Rattle.linegrep_cli.specs.HyperlinkOptions.{IsFormatRefused}
 use Rattle.linegrep_cli.specs.PathSeparators.{refuses_path_separator}
 use Rattle.linegrep_cli.specs.PatternOptions.{pattern_options, pattern_texts}
 use Rattle.linegrep_cli.specs.PatternOptions.{refuses_size_limits}
@@ -33,8 +34,8 @@ pub data ArePatternsRefused (options : Options) (patterns : List (String Global)
       → ArePatternsRefused options patterns
 
 -- why a run is refused: the label of an encoding isn't known; patterns are refused; a limit of
--- sizes isn't one; a separator isn't one byte; colors aren't well formed; the system doesn't have
--- an order; or what is said of files is refused
+-- sizes isn't one; a separator isn't one byte; colors or the format of links aren't well formed;
+-- the system doesn't have an order; or what is said of files is refused
 pub data IsCause (folders : FolderFacts) (options : Options) (patterns : List (String Global))
     : Type 0 where
   of_label : refuses_label options ≡ true → IsCause folders options patterns
@@ -42,6 +43,7 @@ pub data IsCause (folders : FolderFacts) (options : Options) (patterns : List (S
   of_size_limits : refuses_size_limits options ≡ true → IsCause folders options patterns
   of_path_separator : refuses_path_separator options ≡ true → IsCause folders options patterns
   of_colors : refuses_colors options ≡ true → IsCause folders options patterns
+  of_hyperlink_format : IsFormatRefused options → IsCause folders options patterns
   of_order : LacksOrder folders.times (order_for options) → IsCause folders options patterns
   of_files : (files : FileOptions) → AreFileOptions options files → AreFilesRefused files
       → IsCause folders options patterns

@@ -1,6 +1,6 @@
 -- What a run searches, in which order, if all of it can be read.
 use Rattle.std.specs.Prelude.{◌<◌, length}
-use Rattle.std.specs.Prelude.{◌≡◌, ℕ, Bool, true, false, List, [], ◌∷◌, ◌++◌, Option}
+use Rattle.std.specs.Prelude.{◌≡◌, ℕ, Bool, true, false, List, [], ◌∷◌, ◌++◌, None, Option}
 use Rattle.std.specs.Prelude.{MatchBool, Result, Ok, Err, String, codes, not, string_bytes}
 use Rattle.std.specs.Borrow.{Bor}
 use Rattle.std.specs.Global.{Global}
@@ -9,9 +9,10 @@ use Rattle.std.specs.List.{concat}
 use Rattle.std.specs.declared.io.Error.{Error}
 use Rattle.grep_searcher.specs.Searches.{Reads}
 use Rattle.grep_searcher.specs.Source.{ReadResult}
+use Rattle.grep_printer.specs.declared.hyperlinks.HyperlinkConfig.{HyperlinkConfig}
+use Rattle.linegrep_cli.specs.HyperlinkOptions.{IsPathShown}
 use Rattle.linegrep_cli.specs.OperandRuns.{IsLeftOut, is_bare, is_escaped}
 use Rattle.linegrep_cli.specs.OperandRuns.{is_input, path_of}
-use Rattle.linegrep_cli.specs.PathSeparators.{IsShown}
 use Rattle.linegrep_cli.specs.SearchTexts.{Input}
 use Rattle.linegrep_cli.specs.WaitingFiles.{AreInOrder, AreRanked, IsAt}
 use Rattle.linegrep_cli.specs.declared.late.Target.TheVariants.{File as FileTarget, StandardInput}
@@ -32,17 +33,18 @@ AreReadOf remaining read is_all = (after : Option (List ℕ)) × Consumes remain
     × (is_all ≡ true → IsAtEnd after)
 
 -- a file, and the path that is written of it
-pub record IsFileInput {F : Type 0} (file_remaining : F → Option (List ℕ)) (separator : Option ℕ)
+pub record IsFileInput {F : Type 0} (file_remaining : F → Option (List ℕ)) (folders : FolderFacts)
+    (separator : Option ℕ) (hyperlinks : Option (Bor HyperlinkConfig))
     (path : Option (Bor (List ℕ))) (file : F) (quits : Bool) (input : Input) : Type 0 where
-  pub shown : IsShown separator path input.path
+  pub shown : IsPathShown folders separator hyperlinks path input.path
   pub quits_is : input.quits ≡ quits
   pub read : AreReadOf (file_remaining file) input.read input.is_all
 
--- standard input, and the path that is written of it
+-- standard input, and the path that is written of it, which is no link
 pub record IsReaderInput {R : Type 0} (remaining : R → Option (List ℕ))
-    (read_step : R → ReadResult → R → Type 0) (separator : Option ℕ) (path : Option (Bor (List ℕ)))
-    (reader : R) (input : Input) (reader' : R) : Type 0 where
-  pub shown : IsShown separator path input.path
+    (read_step : R → ReadResult → R → Type 0) (folders : FolderFacts) (separator : Option ℕ)
+    (path : Option (Bor (List ℕ))) (reader : R) (input : Input) (reader' : R) : Type 0 where
+  pub shown : IsPathShown folders separator None path input.path
   pub quits_is : input.quits ≡ false
   pub pieces : List (List ℕ)
   pub read_is : input.read ≡ concat pieces

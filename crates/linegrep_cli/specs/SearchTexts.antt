@@ -1,10 +1,10 @@
 -- What a search of some bytes writes if nothing fails, and what searches in a row write.
 use Rattle.std.specs.Prelude.{◌≡◌, ℕ, Bool, true, false, ◌&&◌, ◌||◌, List, [], ◌∷◌, ◌++◌}
 use Rattle.std.specs.Prelude.{MatchBool, Option}
-use Rattle.std.specs.Borrow.{Bor}
 use Rattle.grep_printer.specs.CallParts.{HasParts, has_match}
 use Rattle.grep_printer.specs.CountedTexts.{counted_rules, stats_text}
 use Rattle.grep_printer.specs.Formats.{AreAlong, PrintedCall, Rules, Scene, is_text, printed_by}
+use Rattle.grep_printer.specs.Hyperlinks.{shown_path}
 use Rattle.grep_printer.specs.JsonMessages.{json_line, summary_json}
 use Rattle.grep_printer.specs.JsonTexts.{end_text, json_rules, stats_of}
 use Rattle.grep_printer.specs.ReplacedTexts.{replaced_rules}
@@ -13,6 +13,7 @@ use Rattle.grep_printer.specs.StandardTexts.{standard_rules}
 use Rattle.grep_printer.specs.StatsSums.{no_stats, stats_sum}
 use Rattle.grep_printer.specs.SummaryTexts.{summary_rules}
 use Rattle.grep_printer.specs.VimgrepTexts.{vimgrep_rules}
+use Rattle.grep_printer.specs.declared.hyperlinks.PrinterPath.{PrinterPath}
 use Rattle.grep_printer.specs.declared.counted.CountedFormat.{CountedFormat}
 use Rattle.grep_printer.specs.declared.json_printer.JsonFormat.{JsonFormat}
 use Rattle.grep_printer.specs.declared.stats.Stats.{Stats}
@@ -29,7 +30,7 @@ use Rattle.linegrep_cli.specs.declared.printers.Printer.TheVariants.{ReplacedPar
 -- Something that is searched: the path that is written of it, if one is; what was read of it, and
 -- whether that is all; and whether the search ends once it is found to be binary.
 pub record Input : Type 0 where
-  pub path : Option (Bor (List ℕ))
+  pub path : Option PrinterPath
   pub read : List ℕ
   pub is_all : Bool
   pub quits : Bool
@@ -47,7 +48,7 @@ settings_for settings quits = record settings {
 
 module _ {F M E : Type 0} (rules : Rules F) (facts : M → MatcherFacts E)
     (first_at : M → List ℕ → ℕ → Option (ℕ × ℕ)) (settings : Settings) (matcher : M)
-    (path : Option (Bor (List ℕ))) where
+    (path : Option PrinterPath) where
   abbrev pub scene : Scene
   scene = record { path = path; settings = settings }
 
@@ -98,7 +99,7 @@ findings_then before next = record {
 -- By a searcher's settings and a matcher, for a path and some bytes.
 module _ {M E : Type 0} (facts : M → MatcherFacts E)
     (first_at : M → List ℕ → ℕ → Option (ℕ × ℕ)) (settings : Settings) (matcher : M)
-    (path : Option (Bor (List ℕ))) (bytes : List ℕ) where
+    (path : Option PrinterPath) (bytes : List ℕ) where
   -- what comes of a search by a format that may count, by whether anything was written before. The
   -- time that it took is any
   pub record IsCountedText {F : Type 0} (rules : Rules F) (format : CountedFormat F)
@@ -121,13 +122,13 @@ module _ {M E : Type 0} (facts : M → MatcherFacts E)
     pub found_is : findings.found ≡ (json_rules text_at).has_match last
     pub elapsed : ℕ
     pub stats_is : findings.stats ≡ stats_of last.progress elapsed
-    pub text_is : findings.text ≡ body ++ end_text path last.progress elapsed
+    pub text_is : findings.text ≡ body ++ end_text (shown_path path) last.progress elapsed
 
 module _ {M E : Type 0} (facts : M → MatcherFacts E)
     (first_at : M → List ℕ → ℕ → Option (ℕ × ℕ))
     (groups_at : M → List ℕ → ℕ → List (Option (ℕ × ℕ))) (settings : Settings) (matcher : M) where
   -- what comes of a search by a printer's format, by whether anything was written before
-  abbrev pub IsTextBy : Printer M → Bool → Option (Bor (List ℕ)) → List ℕ → Findings → Type 0
+  abbrev pub IsTextBy : Printer M → Bool → Option PrinterPath → List ℕ → Findings → Type 0
   IsTextBy (Lines run) follows path bytes = IsCountedText facts first_at settings matcher path bytes
       standard_rules run.printer.format follows
   IsTextBy (Parts run) follows path bytes = IsCountedText facts first_at settings matcher path bytes

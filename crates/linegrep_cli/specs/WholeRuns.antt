@@ -26,6 +26,7 @@ use Rattle.linegrep_cli.specs.AcceptedOptions.{AreAccepted}
 use Rattle.linegrep_cli.specs.ColorOptions.{AreColorsLent}
 use Rattle.linegrep_cli.specs.EngineSteps.{has_failed}
 use Rattle.linegrep_cli.specs.FileChoices.{AreChoicesOf}
+use Rattle.linegrep_cli.specs.HyperlinkOptions.{AreHyperlinksLent}
 use Rattle.linegrep_cli.specs.OperandRuns.{IsRunOver}
 use Rattle.linegrep_cli.specs.OptionMeanings.{paths_of}
 use Rattle.linegrep_cli.specs.PathSeparators.{path_separator_of}
@@ -50,16 +51,16 @@ pub record IsMatcherOf {M E : Type 0} (facts : M → MatcherFacts E)
   pub first : first_at matcher ≡ regex_first_at regex
   pub trusted : (terminator : LineTerminator) → (facts matcher).is_lawful terminator
 
-module _ {F M R W X E : Type 0} (output : E → Option (List ℕ)) (facts : M → MatcherFacts E)
+module _ {S F M R W X E : Type 0} (output : E → Option (List ℕ)) (facts : M → MatcherFacts E)
     (first_at : M → List ℕ → ℕ → Option (ℕ × ℕ))
     (groups_at : M → List ℕ → ℕ → List (Option (ℕ × ℕ)))
     (write_step : W → OutputCall → W → Type 0) (file_remaining : F → Option (List ℕ))
     (remaining : R → Option (List ℕ)) (read_step : R → ReadResult → R → Type 0)
-    (folders : FolderFacts) (finds : List ℕ → Result Bool Error → Type 0)
+    (facts_of : S → FolderFacts) (system : S) (finds : List ℕ → Result Bool Error → Type 0)
     (opens : List ℕ → Result F Error → Type 0) (identifies : F → Option FileId → Type 0) where
   -- the engine that options ask for. It has written nothing yet, and has no file open
   pub record IsEngineFor (options : Options) (matcher : M) (template : Option (Bor Template))
-      (input : R) (writer : W) (errors : X) (engine : PrintingEngine F M R W X) : Type 0 where
+      (input : R) (writer : W) (errors : X) (engine : PrintingEngine S F M R W X) : Type 0 where
     pub settings : engine.searcher.settings ≡ searcher_settings options
     pub asks : engine.matcher ≡ matcher
     pub separators : Option (Bor Separators)
@@ -74,22 +75,25 @@ module _ {F M R W X E : Type 0} (output : E → Option (List ℕ)) (facts : M �
     pub haystack : engine.haystack ≡ record { file = None; reader = input }
     pub says : engine.errors.now ≡ errors
     pub path_separator : engine.path_separator ≡ path_separator_of options
+    pub hyperlinks : AreHyperlinksLent (facts_of system) options engine.hyperlinks
+    pub asks_system : engine.system.now ≡ system
     pub detection : engine.detection ≡ (searcher_settings options).binary_detection
 
   -- a run with a matcher and a template, over the operands of options that are accepted, with the
   -- choices of files and the engine that they ask for
   pub record IsRunWith (options : Options) (matcher : M) (template : Option (Bor Template))
       (input : R) (writer : W) (errors : X) (status : ℕ) (input' : R) (writer' : W) : Type 0 where
-    pub accepted : AreAccepted folders options
+    pub accepted : AreAccepted (facts_of system) options
     pub scope : Scope
-    pub first : PrintingEngine F M R W X
-    pub last : PrintingEngine F M R W X
+    pub first : PrintingEngine S F M R W X
+    pub last : PrintingEngine S F M R W X
     pub is_scope : IsScopeOf finds options scope
     pub choices : Choices
-    pub are_choices : AreChoicesOf folders options choices
+    pub are_choices : AreChoicesOf (facts_of system) options choices
     pub begins : IsEngineFor options matcher template input writer errors first
-    pub run : IsRunOver folders finds opens identifies
-        (IsEngineStep output facts first_at groups_at write_step file_remaining remaining read_step)
+    pub run : IsRunOver (facts_of system) finds opens identifies
+        (IsEngineStep output facts first_at groups_at write_step file_remaining remaining read_step
+        facts_of)
         (λ engine. has_failed engine.printer) scope choices (paths_of options) first status last
     pub input_after : input' ≡ last.haystack.reader
     pub writer_after : writer' ≡ last.writer
@@ -155,10 +159,10 @@ literal_groups_at matcher = regex_groups_at (literal_regex matcher.now)
 
 -- a whole run, by its options and patterns. The patterns are compiled as the options say, to tables
 -- that are no larger than these allow, and the run is one for the expression that they give
-pub record IsWholeRun {F R W X : Type 0} (output : AllocError → Option (List ℕ))
+pub record IsWholeRun {S F R W X : Type 0} (output : AllocError → Option (List ℕ))
     (write_step : W → OutputCall → W → Type 0) (file_remaining : F → Option (List ℕ))
     (remaining : R → Option (List ℕ)) (read_step : R → ReadResult → R → Type 0)
-    (folders : FolderFacts) (finds : List ℕ → Result Bool Error → Type 0)
+    (facts_of : S → FolderFacts) (system : S) (finds : List ℕ → Result Bool Error → Type 0)
     (opens : List ℕ → Result F Error → Type 0) (identifies : F → Option FileId → Type 0)
     (options : Options)
     (patterns : List (String Global)) (input : R) (writer : W) (errors : X) (status : ℕ)
@@ -169,10 +173,10 @@ pub record IsWholeRun {F R W X : Type 0} (output : AllocError → Option (List �
   pub sized : AreSized (pattern_options options patterns) (pattern_texts options patterns)
       (regex_programs regex)
   pub run : IsRunFor {M = Literal} output literal_facts literal_first_at literal_groups_at
-      write_step file_remaining remaining read_step folders finds opens identifies options regex
-      input writer errors
+      write_step file_remaining remaining read_step facts_of system finds opens identifies options
+      regex input writer errors
       status input' writer'
       ⊎ IsRunFor {M = Named (naming_of regex)} output named_facts named_first_at named_groups_at
-      write_step file_remaining remaining read_step folders finds opens identifies options regex
-      input writer errors
+      write_step file_remaining remaining read_step facts_of system finds opens identifies options
+      regex input writer errors
       status input' writer'

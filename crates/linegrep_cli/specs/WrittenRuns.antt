@@ -10,6 +10,7 @@ use Rattle.std.specs.declared.io.Error.{Error}
 use Rattle.std.specs.declared.io.ErrorKind.TheVariants.{BrokenPipe}
 use Rattle.grep_output.specs.Outputs.{EndsIn, OutputCall, flushes, writes}
 use Rattle.grep_printer.specs.declared.colors.ColorTexts.{ColorTexts}
+use Rattle.grep_printer.specs.declared.hyperlinks.HyperlinkConfig.{HyperlinkConfig}
 use Rattle.grep_printer.specs.declared.separators.Separators.{Separators}
 use Rattle.grep_regex.specs.Views.{regex_groups_at, regex_options, regex_patterns}
 use Rattle.grep_regex.specs.declared.regex.Regex.{Regex}
@@ -21,6 +22,7 @@ use Rattle.linegrep_cli.specs.AcceptedOptions.{AreAccepted}
 use Rattle.linegrep_cli.specs.ColorOptions.{AreColorsLent}
 use Rattle.linegrep_cli.specs.ConfigFiles.{AreWords}
 use Rattle.linegrep_cli.specs.FileChoices.{AreChoicesOf}
+use Rattle.linegrep_cli.specs.HyperlinkOptions.{AreHyperlinksLent}
 use Rattle.linegrep_cli.specs.OperandTexts.{operand_texts}
 use Rattle.linegrep_cli.specs.OptionMeanings.{paths_of}
 use Rattle.linegrep_cli.specs.OptionUses.{has}
@@ -123,6 +125,8 @@ module _ {F R W : Type 0} (contents : W → Option (List ℕ)) (before : List �
     pub are_separators : AreLent options separators
     pub colors : Option (Bor ColorTexts)
     pub are_colors : AreColorsLent options colors
+    pub hyperlinks : Option (Bor HyperlinkConfig)
+    pub are_hyperlinks : AreHyperlinksLent folders options hyperlinks
     pub printer : Printer M
     pub is_printer : IsPrinterOf options
         (is_across (searcher_settings options) (facts matcher).meaning) separators colors matcher
@@ -135,9 +139,9 @@ module _ {F R W : Type 0} (contents : W → Option (List ℕ)) (before : List �
     pub are_choices : SaysTheSame named choices
     pub inputs : List Input
     pub are_searched : AreSearched folders finds opens identifies scope
-        (IsFileInput file_remaining (path_separator_of options))
-        (IsReaderInput remaining read_step (path_separator_of options)) choices (paths_of options)
-        input inputs input'
+        (IsFileInput file_remaining folders (path_separator_of options) hyperlinks)
+        (IsReaderInput remaining read_step folders (path_separator_of options)) choices
+        (paths_of options) input inputs input'
     pub findings : Findings
     pub texts : AreTextsFor facts first_at groups_at (searcher_settings options) matcher printer
         inputs findings

@@ -28,7 +28,8 @@ pub fn color_specs<'c>(
     }
 }
 
-fn is_colored(choice: Option<&str>, streams: Streams) -> bool
+/// Whether there are colors, by what options say of when there are.
+pub fn is_colored(choice: Option<&str>, streams: Streams) -> bool
     ensures { result ≡ is_colored (option_map (λ text. text.now) choice.entry) streams }
 {
     match choice {

@@ -6,7 +6,7 @@ ghost use Rattle.linegrep_cli.specs.CountedRuns.{IsRunFlushed};
 
 use crate::clock::elapsed;
 use grep_output::Output;
-use grep_printer::{CountedFormat, Format, Printer, Searched, Stats, search};
+use grep_printer::{CountedFormat, Format, Printer, PrinterPath, Searched, Stats, search};
 use grep_searcher::{FindAt, SearchError, Searcher, Source};
 use std::io;
 use std::time::Instant;
@@ -113,7 +113,7 @@ impl<F: Format> CountedRun<F> {
         matcher: M,
         haystack: &mut H,
         writer: &mut W,
-        path: Option<&str>,
+        path: Option<PrinterPath<'_>>,
     ) -> Searched
         ensures settings { searcher.new.settings ≡ searcher.old.settings }
         ensures buffers { searcher.old.has_buffers ≡ true → searcher.new.has_buffers ≡ true }
@@ -123,7 +123,7 @@ impl<F: Format> CountedRun<F> {
             writer.new self.new }
     {
         let start = now(rt, &self.printer);
-        let mut sink = self.printer.sink(writer, matcher, path);
+        let mut sink = self.printer.sink_with_path(writer, matcher, path);
         let result = search(searcher, matcher, haystack, &mut sink);
         let counted = sink.stats(elapsed(rt, start));
         let has_match = sink.end();

@@ -1,19 +1,22 @@
 //! A searcher, a matcher and a printer, which search as one.
-ghost use Rattle.std.specs.Prelude.{◌≡◌, Bool, None, Some};
+ghost use Rattle.std.specs.Prelude.{◌≡◌, Bool, MatchOption, None, Some};
 ghost use Rattle.linegrep_cli.specs.EngineCalls.{EngineCall, finishes, lists, says};
 ghost use Rattle.linegrep_cli.specs.EngineCalls.{searches_file, searches_input, sets_quits};
 ghost use Rattle.linegrep_cli.specs.EngineSteps.{IsWrittenError};
+ghost use Rattle.linegrep_cli.specs.HyperlinkOptions.{LeadsTo};
 ghost use Rattle.linegrep_cli.specs.PrintingEngines.{IsDoneShown, IsPathWritten, IsSearched};
 ghost use Rattle.linegrep_cli.specs.PrintingEngines.{IsUnsearched, detection_with};
 
 use crate::failures::say;
 use crate::haystacks::Haystack;
+use crate::hyperlinks::link_target;
 use crate::printers::Printer;
 use crate::separators::with_separator;
 use grep_output::Output;
-use grep_printer::Searched;
+use grep_printer::{Hyperlink, HyperlinkConfig, PrinterPath, Searched};
 use grep_replace::CapturesAt;
 use grep_searcher::{BinaryDetection, SearchError, Searcher, Source};
+use linegrep_files::Folders;
 use std::io;
 use std::io::Read;
 
@@ -64,7 +67,7 @@ pub trait Engine<F> {
 
 /// The engine of a searcher, a matcher and a printer, over standard input and standard error.
 #[derive(Drop)]
-pub struct PrintingEngine<'e, F, M, R, W, E> {
+pub struct PrintingEngine<'e, S, F, M, R, W, E> {
     rt: &'e HostRuntime,
     searcher: Searcher,
     matcher: M,
@@ -75,13 +78,17 @@ pub struct PrintingEngine<'e, F, M, R, W, E> {
     errors: &'e mut E,
     // What is written in place of each slash of a path, if something is.
     path_separator: Option<u8>,
+    // How links to files are written, if they are, and what is asked where the links lead.
+    hyperlinks: Option<&'e HyperlinkConfig>,
+    system: &'e S,
     // What the searcher did at first about binary files.
     detection: BinaryDetection,
 }
 
-impl<'e, F, M, R, W, E> PrintingEngine<'e, F, M, R, W, E> {
+impl<'e, S, F, M, R, W, E> PrintingEngine<'e, S, F, M, R, W, E> {
     /// An engine of a searcher, a matcher and a printer. If there is a separator, it writes that in
-    /// place of each slash of a path. Times are by the clock of `rt`.
+    /// place of each slash of a path. If there are links, it asks `system` where they lead. Times
+    /// are by the clock of `rt`.
     pub fn new(
         rt: &'e HostRuntime,
         searcher: Searcher,
@@ -91,7 +98,9 @@ impl<'e, F, M, R, W, E> PrintingEngine<'e, F, M, R, W, E> {
         input: R,
         errors: &'e mut E,
         path_separator: Option<u8>,
-    ) -> PrintingEngine<'e, F, M, R, W, E>
+        hyperlinks: Option<&'e HyperlinkConfig>,
+        system: &'e S,
+    ) -> PrintingEngine<'e, S, F, M, R, W, E>
         ensures searcher { result.searcher ≡ searcher }
         ensures matcher { result.matcher ≡ matcher }
         ensures printer { result.printer ≡ printer.entry }
@@ -99,6 +108,8 @@ impl<'e, F, M, R, W, E> PrintingEngine<'e, F, M, R, W, E> {
         ensures haystack { result.haystack ≡ record { file = None; reader = input } }
         ensures errors { result.errors.now ≡ errors.old }
         ensures path_separator { result.path_separator ≡ path_separator }
+        ensures hyperlinks { result.hyperlinks ≡ hyperlinks.entry }
+        ensures system { result.system ≡ system.entry }
         ensures detection { result.detection ≡ searcher.settings.binary_detection }
     {
         let detection = *searcher.binary_detection();
@@ -114,6 +125,8 @@ impl<'e, F, M, R, W, E> PrintingEngine<'e, F, M, R, W, E> {
             },
             errors,
             path_separator,
+            hyperlinks,
+            system,
             detection,
         }
     }
@@ -135,6 +148,8 @@ impl<'e, F, M, R, W, E> PrintingEngine<'e, F, M, R, W, E> {
             haystack,
             errors: _,
             path_separator: _,
+            hyperlinks: _,
+            system: _,
             detection: _,
         } = self;
         let Haystack { file: _, reader } = haystack;
@@ -142,8 +157,9 @@ impl<'e, F, M, R, W, E> PrintingEngine<'e, F, M, R, W, E> {
     }
 }
 
-impl<'e, F: Read + Drop, M: CapturesAt + Copy, R: Source, W: Output, E> PrintingEngine<
+impl<'e, S: Folders, F: Read + Drop, M: CapturesAt + Copy, R: Source, W: Output, E> PrintingEngine<
     'e,
+    S,
     F,
     M,
     R,
@@ -151,25 +167,42 @@ impl<'e, F: Read + Drop, M: CapturesAt + Copy, R: Source, W: Output, E> Printing
     E,
 > {
     // Searches a file, or else standard input, and writes what is found in it, with the path as it
-    // is written.
-    fn search(&mut self, file: Option<F>, path: Option<&str>) -> Searched
-        ensures { IsDoneShown (IsSearched M.Error.output M.facts M.first_at M.groups_at W.step
-            F.remaining R.remaining R.step file) path.entry self.old result self.new }
+    // is written, and with links as they are given, if there are any.
+    fn search(
+        &mut self,
+        file: Option<F>,
+        hyperlinks: Option<&HyperlinkConfig>,
+        path: Option<&str>,
+    ) -> Searched
+        ensures { IsDoneShown S.facts hyperlinks.entry (IsSearched M.Error.output M.facts M.first_at
+            M.groups_at W.step F.remaining R.remaining R.step file) path.entry self.old result
+            self.new }
     {
-        match (self.path_separator, path) {
-            (Some(separator), Some(path)) => {
-                match with_separator(self.rt.alloc(), path, separator) {
-                    Ok(path) => self.search_shown(file, Some(path.as_str())),
-                    Err(_) => unsearched(),
+        let Some(path) = path else {
+            return self.search_shown(file, None);
+        };
+        let target = match hyperlinks {
+            Some(_) => link_target(self.rt.alloc(), self.system, path),
+            None => None,
+        };
+        match self.path_separator {
+            Some(separator) => match with_separator(self.rt.alloc(), path, separator) {
+                Ok(shown) => {
+                    let path = printer_path(shown.as_str(), hyperlinks, &target);
+                    self.search_shown(file, Some(path))
                 }
+                Err(_) => unsearched(),
+            },
+            None => {
+                let path = printer_path(path, hyperlinks, &target);
+                self.search_shown(file, Some(path))
             }
-            _ => self.search_shown(file, path),
         }
     }
 
     // Searches a file, or else standard input, and writes what is found in it, with the path as it
     // is given.
-    fn search_shown(&mut self, file: Option<F>, path: Option<&str>) -> Searched
+    fn search_shown(&mut self, file: Option<F>, path: Option<PrinterPath<'_>>) -> Searched
         ensures { IsSearched M.Error.output M.facts M.first_at M.groups_at W.step F.remaining
             R.remaining R.step
             file self.old path.entry result self.new }
@@ -188,7 +221,7 @@ impl<'e, F: Read + Drop, M: CapturesAt + Copy, R: Source, W: Output, E> Printing
     }
 
     // Writes a path, as it is given, as the path of a file with a match.
-    fn list_shown(&mut self, path: &str) -> Searched
+    fn list_shown(&mut self, path: PrinterPath<'_>) -> Searched
         ensures { IsPathWritten M.Error.output M.facts M.first_at M.groups_at W.step F.remaining
             R.remaining
             R.step self.old (Some path.entry) result self.new }
@@ -205,31 +238,43 @@ impl<'e, F: Read + Drop, M: CapturesAt + Copy, R: Source, W: Output, E> Printing
     }
 }
 
-impl<'e, F: Read + Drop, M: CapturesAt + Copy, R: Source, W: Output, E: Output> Engine<F>
-    for PrintingEngine<'e, F, M, R, W, E> {
+impl<'e, S: Folders, F: Read + Drop, M: CapturesAt + Copy, R: Source, W: Output, E: Output> Engine<
+    F,
+> for PrintingEngine<'e, S, F, M, R, W, E> {
     ghost use Rattle.linegrep_cli.specs.EngineSteps.{has_failed};
     ghost use Rattle.linegrep_cli.specs.PrintingEngines.{IsEngineStep};
 
     ghost step = { IsEngineStep M.Error.output M.facts M.first_at M.groups_at W.step F.remaining
-        R.remaining R.step };
+        R.remaining R.step S.facts };
 
     ghost has_failed = { λ engine. has_failed engine.printer };
 
     fn search_file(&mut self, file: F, path: Option<&str>) -> Searched {
-        self.search(Some(file), path)
+        let hyperlinks = self.hyperlinks;
+        self.search(Some(file), hyperlinks, path)
     }
 
     fn search_input(&mut self, path: Option<&str>) -> Searched {
-        self.search(None, path)
+        self.search(None, None, path)
     }
 
     fn list(&mut self, path: &str) -> Searched {
+        let target = match self.hyperlinks {
+            Some(_) => link_target(self.rt.alloc(), self.system, path),
+            None => None,
+        };
         match self.path_separator {
             Some(separator) => match with_separator(self.rt.alloc(), path, separator) {
-                Ok(path) => self.list_shown(path.as_str()),
+                Ok(shown) => {
+                    let path = printer_path(shown.as_str(), self.hyperlinks, &target);
+                    self.list_shown(path)
+                }
                 Err(_) => unsearched(),
             },
-            None => self.list_shown(path),
+            None => {
+                let path = printer_path(path, self.hyperlinks, &target);
+                self.list_shown(path)
+            }
         }
     }
 
@@ -254,6 +299,27 @@ impl<'e, F: Read + Drop, M: CapturesAt + Copy, R: Source, W: Output, E: Output> 
             Err(error) => Err(written_error(error)),
         }
     }
+}
+
+// A path as it is written, with the link to where it leads, if there are links and it leads
+// somewhere.
+fn printer_path<'p>(
+    text: &'p str,
+    hyperlinks: Option<&'p HyperlinkConfig>,
+    target: &'p Option<String>,
+) -> PrinterPath<'p>
+    ensures text { result.text ≡ text.entry }
+    ensures link { MatchOption hyperlinks.entry (result.link ≡ None)
+        (λ config. LeadsTo config target.now result.link) }
+{
+    let link = match (hyperlinks, target) {
+        (Some(config), Some(target)) => Some(Hyperlink {
+            config,
+            path: target.as_str(),
+        }),
+        _ => None,
+    };
+    PrinterPath { text, link }
 }
 
 /// The result if nothing was searched, since there is no memory.

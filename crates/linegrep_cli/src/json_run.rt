@@ -6,7 +6,9 @@ ghost use Rattle.linegrep_cli.specs.WriterFlushes.{IsWriterFlushed};
 
 use crate::clock::elapsed;
 use grep_output::Output;
-use grep_printer::{JsonFormat, Printer, PrinterSink, Replacer, Searched, Stats, search};
+use grep_printer::{
+    JsonFormat, Printer, PrinterPath, PrinterSink, Replacer, Searched, Stats, search,
+};
 use grep_searcher::{FindAt, SearchError, Searcher, Source};
 use std::io;
 use std::time::Instant;
@@ -100,7 +102,7 @@ impl<R: Replacer> JsonRun<R> {
         matcher: M,
         haystack: &mut H,
         writer: &mut W,
-        path: Option<&str>,
+        path: Option<PrinterPath<'_>>,
     ) -> Searched
         ensures settings { searcher.new.settings ≡ searcher.old.settings }
         ensures buffers { searcher.old.has_buffers ≡ true → searcher.new.has_buffers ≡ true }
@@ -110,7 +112,7 @@ impl<R: Replacer> JsonRun<R> {
             writer.new self.new }
     {
         let start = Instant::now(rt).ok();
-        let mut sink = self.printer.sink(writer, matcher, path);
+        let mut sink = self.printer.sink_with_path(writer, matcher, path);
         let result = search(searcher, matcher, haystack, &mut sink);
         let ended = write_end(rt, &mut sink, start, result);
         let has_match = sink.end();

@@ -16,6 +16,7 @@ mod failures;
 mod file_options;
 mod file_run;
 mod haystacks;
+mod hyperlinks;
 mod json_run;
 mod late;
 mod lists;

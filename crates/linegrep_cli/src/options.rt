@@ -81,6 +81,8 @@ pub struct Options<'m, 'w> {
     pub field_match_separator: Option<&'w str>,
     /// What is written in place of each slash of a path, with escapes.
     pub path_separator: Option<&'w str>,
+    /// The format of links.
+    pub hyperlink_format: Option<&'w str>,
     /// How many bytes the tables of the patterns have at most, as a text.
     pub regex_size_limit: Option<&'w str>,
     /// A size that makes no difference, as a text.
@@ -130,6 +132,7 @@ impl<'m, 'w> Options<'m, 'w> {
             field_context_separator: last_value(uses, OptionId::FieldContextSeparator),
             field_match_separator: last_value(uses, OptionId::FieldMatchSeparator),
             path_separator: last_value(uses, OptionId::PathSeparator),
+            hyperlink_format: last_value(uses, OptionId::HyperlinkFormat),
             regex_size_limit: last_value(uses, OptionId::RegexSizeLimit),
             dfa_size_limit: last_value(uses, OptionId::DfaSizeLimit),
             replace: last_value(uses, OptionId::Replace),

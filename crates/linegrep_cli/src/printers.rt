@@ -8,7 +8,8 @@ use crate::counted_run::CountedRun;
 use crate::json_run::JsonRun;
 use grep_output::Output;
 use grep_printer::{
-    ReplacedFormat, Searched, StandardFormat, SummaryFormat, TemplateReplacer, VimgrepFormat,
+    PrinterPath, ReplacedFormat, Searched, StandardFormat, SummaryFormat, TemplateReplacer,
+    VimgrepFormat,
 };
 use grep_replace::CapturesAt;
 use grep_searcher::{SearchError, Searcher, Source};
@@ -40,7 +41,7 @@ impl<'c, M: CapturesAt + Copy> Printer<'c, M> {
         matcher: M,
         haystack: &mut H,
         writer: &mut W,
-        path: Option<&str>,
+        path: Option<PrinterPath<'_>>,
     ) -> Searched
         ensures settings { searcher.new.settings ≡ searcher.old.settings }
         ensures buffers { searcher.old.has_buffers ≡ true → searcher.new.has_buffers ≡ true }

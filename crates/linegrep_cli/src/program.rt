@@ -81,7 +81,7 @@ pub fn run<S: System, R: Source + Drop, W: Output + Drop, E: Output>(
 ) -> Ended<R, W>
     ensures run { IsProgramRun ⟦<AllocError as Display>⟧.output W.step E.step S.File.remaining
         R.remaining
-        R.step (S.facts system.now) (S.finds system.now) (S.opens system.now)
+        R.step S.facts system.now (S.finds system.now) (S.opens system.now)
         (S.identifies system.now) arguments.now streams input output errors.old result.status
         result.input result.output errors.new }
     ensures written { DoesAsAsked W.contents S.File.remaining R.remaining R.step
@@ -104,7 +104,7 @@ fn run_arguments<S: System, R: Source + Drop, W: Output + Drop, E: Output>(
 ) -> Ended<R, W>
     ensures { IsProgramRun ⟦<AllocError as Display>⟧.output W.step E.step S.File.remaining
         R.remaining
-        R.step (S.facts system.now) (S.finds system.now) (S.opens system.now)
+        R.step S.facts system.now (S.finds system.now) (S.opens system.now)
         (S.identifies system.now) arguments.now streams input output errors.old result.status
         result.input result.output errors.new }
 {
@@ -136,7 +136,7 @@ fn run_command<S: System, R: Source + Drop, W: Output + Drop, E: Output>(
     requires { AreRead arguments.now parsed.now }
     ensures { IsProgramRun ⟦<AllocError as Display>⟧.output W.step E.step S.File.remaining
         R.remaining
-        R.step (S.facts system.now) (S.finds system.now) (S.opens system.now)
+        R.step S.facts system.now (S.finds system.now) (S.opens system.now)
         (S.identifies system.now) arguments.now streams input output errors.old result.status
         result.input result.output errors.new }
 {
@@ -171,7 +171,7 @@ fn run_with_file<S: System, R: Source + Drop, W: Output + Drop, E: Output>(
     requires file { IsConfig (S.facts system.now) (Config.Present file.now) }
     ensures { IsProgramRun ⟦<AllocError as Display>⟧.output W.step E.step S.File.remaining
         R.remaining
-        R.step (S.facts system.now) (S.finds system.now) (S.opens system.now)
+        R.step S.facts system.now (S.finds system.now) (S.opens system.now)
         (S.identifies system.now) arguments.now streams input output errors.old result.status
         result.input result.output errors.new }
 {
@@ -206,7 +206,7 @@ fn run_parsed<S: System, R: Source + Drop, W: Output + Drop, E: Output>(
 ) -> Ended<R, W>
     ensures { IsParsedRun ⟦<AllocError as Display>⟧.output W.step E.step S.File.remaining
         R.remaining
-        R.step (S.facts system.now) (S.finds system.now) (S.opens system.now)
+        R.step S.facts system.now (S.finds system.now) (S.opens system.now)
         (S.identifies system.now) parsed.now streams input output errors.old result.status
         result.input result.output errors.new }
 {
@@ -267,7 +267,7 @@ fn run_options<S: System, R: Source + Drop, W: Output + Drop, E: Output>(
     requires files { lists.now.pattern_files.items ≡ values_of OptionId.File options.now.uses.now }
     ensures { IsOptionsRun ⟦<AllocError as Display>⟧.output W.step E.step S.File.remaining
         R.remaining
-        R.step (S.facts system.now) (S.finds system.now) (S.opens system.now)
+        R.step S.facts system.now (S.finds system.now) (S.opens system.now)
         (S.identifies system.now) options.now input output errors.old result.status result.input
         result.output errors.new }
 {
@@ -296,7 +296,7 @@ fn run_unanswered<S: System, R: Source + Drop, W: Output + Drop, E: Output>(
     requires files { lists.now.pattern_files.items ≡ values_of OptionId.File options.now.uses.now }
     ensures { IsOptionsRun ⟦<AllocError as Display>⟧.output W.step E.step S.File.remaining
         R.remaining
-        R.step (S.facts system.now) (S.finds system.now) (S.opens system.now)
+        R.step S.facts system.now (S.finds system.now) (S.opens system.now)
         (S.identifies system.now) options.now input output errors.old result.status result.input
         result.output errors.new }
 {

@@ -18,7 +18,6 @@ pub fn reason(option: &str) -> Option<&'static str> {
 pub fn refused_value(option: OptionId) -> Option<&'static str> {
     match option {
         OptionId::Engine => Some(NO_ENGINE),
-        OptionId::HyperlinkFormat => Some("there are no links"),
         _ => None,
     }
 }

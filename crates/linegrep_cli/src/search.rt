@@ -8,6 +8,7 @@ ghost use Rattle.grep_regex.specs.Sizes.{AreSized};
 ghost use Rattle.grep_regex.specs.Views.{IsNamed, regex_options, regex_patterns, regex_programs};
 ghost use Rattle.linegrep_cli.specs.PatternOptions.{pattern_options, pattern_texts};
 ghost use Rattle.linegrep_cli.specs.ColorOptions.{refuses_colors};
+ghost use Rattle.linegrep_cli.specs.HyperlinkOptions.{IsFormatAccepted, IsFormatRefused};
 ghost use Rattle.linegrep_cli.specs.PathSeparators.{refuses_path_separator};
 ghost use Rattle.linegrep_cli.specs.PreparedRuns.{IsLayout, IsPrepared};
 ghost use Rattle.linegrep_cli.specs.Refusals.{ArePatternsRefused, IsCause, IsRefusedFor, IsSaid};
@@ -21,6 +22,7 @@ use crate::engine::PrintingEngine;
 use crate::failures::{Failure, say};
 use crate::file_options::file_options;
 use crate::file_run::Run;
+use crate::hyperlinks::hyperlinks;
 use crate::options::Options;
 use crate::patterns::{check_size_limits, compile};
 use crate::scope::Scope;
@@ -29,7 +31,7 @@ use crate::settings::{build_printer, build_searcher};
 use crate::system::System;
 use crate::template::template;
 use grep_output::Output;
-use grep_printer::{ColorTexts, Separators};
+use grep_printer::{ColorTexts, HyperlinkConfig, Separators};
 use grep_regex::{NamedMatcher, Naming, Regex};
 use grep_replace::{CapturesAt, Template};
 use grep_searcher::{FindAt, Matcher, Searcher, Source};
@@ -91,6 +93,7 @@ struct Layout {
     separators: Option<Separators>,
     colors: Option<ColorTexts>,
     path_separator: Option<u8>,
+    hyperlinks: Option<HyperlinkConfig>,
 }
 
 // Written out, so that a caller's proof sees one call.
@@ -100,6 +103,7 @@ impl Drop for Layout {
             separators: _separators,
             colors: _colors,
             path_separator: _path_separator,
+            hyperlinks: _hyperlinks,
         } = self;
     }
 }
@@ -129,7 +133,7 @@ fn prepare<'r, S: System>(
 {
     options.order().check(rt.alloc(), system)?;
     check_size_limits(rt.alloc(), options)?;
-    let layout = match layout_of(rt.alloc(), options) {
+    let layout = match layout_of(rt.alloc(), system, options) {
         Ok(layout) => layout,
         Err(failure) => return Err(failure),
     };
@@ -157,11 +161,17 @@ fn prepare<'r, S: System>(
 
 // What is written besides what is found. An error is that a setting is wrong, or that there is no
 // memory.
-fn layout_of(alloc: Global, options: &Options<'_, '_>) -> Result<Layout, Failure>
-    ensures layout { IfOk result (IsLayout options.now) }
+fn layout_of<S: System>(
+    alloc: Global,
+    system: &S,
+    options: &Options<'_, '_>,
+) -> Result<Layout, Failure>
+    ensures layout { IfOk result (IsLayout (S.facts system.now) options.now) }
     ensures known { IfOk result (λ _. refuses_path_separator options.now ≡ false) }
+    ensures formatted { IfOk result (λ _. IsFormatAccepted options.now) }
     ensures refused { IfErr result (λ failure. has_cause failure ≡ true
-        → (refuses_path_separator options.now ≡ true) ⊎ (refuses_colors options.now ≡ true)) }
+        → (refuses_path_separator options.now ≡ true) ⊎ (refuses_colors options.now ≡ true)
+        ⊎ IsFormatRefused options.now) }
 {
     let path_separator = match path_separator(alloc, options) {
         Ok(path_separator) => path_separator,
@@ -171,11 +181,16 @@ fn layout_of(alloc: Global, options: &Options<'_, '_>) -> Result<Layout, Failure
         Ok(colors) => colors,
         Err(failure) => return Err(failure),
     };
+    let hyperlinks = match hyperlinks(alloc, system, options) {
+        Ok(hyperlinks) => hyperlinks,
+        Err(failure) => return Err(failure),
+    };
     match separators(alloc, options) {
         Ok(separators) => Ok(Layout {
             separators,
             colors,
             path_separator,
+            hyperlinks,
         }),
         Err(_) => Err(Failure::out_of_memory()),
     }
@@ -230,7 +245,7 @@ pub fn search_all<S: System, R: Source + Drop, W: Output + Drop, E: Output>(
     ensures { IsRefusedFor E.step (S.facts system.now) options.now patterns.now input output
         errors.old result.status result.input result.output errors.new
         ⊎ IsWholeRun ⟦<AllocError as Display>⟧.output W.step S.File.remaining R.remaining R.step
-        (S.facts system.now) (S.finds system.now) (S.opens system.now) (S.identifies system.now)
+        S.facts system.now (S.finds system.now) (S.opens system.now) (S.identifies system.now)
         options.now patterns.now input output errors.old result.status result.input
         result.output }
 {
@@ -263,14 +278,14 @@ where
         options.now patterns input output errors.old result.status result.input result.output
         errors.new)
         ⊎ (IsRunFor ⟦<AllocError as Display>⟧.output literal_facts literal_first_at
-        literal_groups_at W.step S.File.remaining R.remaining R.step (S.facts system.now)
+        literal_groups_at W.step S.File.remaining R.remaining R.step S.facts system.now
         (S.finds system.now) (S.opens system.now) (S.identifies system.now) options.now regex.now
         input output errors.old result.status result.input result.output
         ⊎ IsRunFor ⟦<AllocError as Display>⟧.output
         ⟦<&'static NamedMatcher<'static, N> as Matcher>⟧.facts
         ⟦<&'static NamedMatcher<'static, N> as FindAt>⟧.first_at
         ⟦<&'static NamedMatcher<'static, N> as CapturesAt>⟧.groups_at W.step S.File.remaining
-        R.remaining R.step (S.facts system.now) (S.finds system.now) (S.opens system.now)
+        R.remaining R.step S.facts system.now (S.finds system.now) (S.opens system.now)
         (S.identifies system.now) options.now regex.now input output errors.old result.status
         result.input result.output) }
 {
@@ -301,7 +316,7 @@ impl<'r> Prepared<'r> {
         ensures { (template : Option (Bor Template))
             × (option_copied template ≡ self.entry.template)
             × IsRunWith M.Error.output M.facts M.first_at M.groups_at W.step S.File.remaining
-            R.remaining R.step (S.facts system.now) (S.finds system.now) (S.opens system.now)
+            R.remaining R.step S.facts system.now (S.finds system.now) (S.opens system.now)
             (S.identifies system.now) options.now matcher template input output errors.old
             result.status result.input result.output }
     {
@@ -322,7 +337,7 @@ impl<'r> Prepared<'r> {
             matcher,
             template.as_ref(),
         );
-        let mut engine: PrintingEngine<'_, S::File, M, R, W, E> = PrintingEngine::new(
+        let mut engine: PrintingEngine<'_, S, S::File, M, R, W, E> = PrintingEngine::new(
             rt,
             searcher,
             matcher,
@@ -331,6 +346,8 @@ impl<'r> Prepared<'r> {
             input,
             errors,
             layout.path_separator,
+            layout.hyperlinks.as_ref(),
+            system,
         );
         let run = Run::new(rt, system, scope);
         let status = run.complete(&mut engine, &mut choices, options.paths());

@@ -55,7 +55,6 @@ words_of When = codes "auto" ∷ codes "always" ∷ codes "never" ∷ codes "ans
 words_of Order = codes "none" ∷ codes "path" ∷ codes "modified" ∷ codes "accessed"
     ∷ codes "created" ∷ []
 words_of Engine = codes "default" ∷ codes "auto" ∷ []
-words_of Format = codes "none" ∷ []
 words_of Kind = codes "man" ∷ codes "complete-bash" ∷ codes "complete-zsh" ∷ codes "complete-fish"
     ∷ codes "complete-powershell" ∷ []
 words_of value = []

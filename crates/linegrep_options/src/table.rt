@@ -33,8 +33,6 @@ pub enum Value {
     Order,
     /// `default` or `auto`.
     Engine,
-    /// `none`.
-    Format,
     /// `man`, `complete-bash`, `complete-zsh`, `complete-fish` or `complete-powershell`.
     Kind,
     /// Any text, as all that follow are. They differ in what messages call them.
@@ -46,6 +44,7 @@ pub enum Value {
     Separator,
     Template,
     Change,
+    Format,
     Label,
     Size,
 }
@@ -245,7 +244,8 @@ macro_rules! options {
             "Write colors: always, never, or auto, for a terminal";
         Colors, "colors", None, Value::Change, [],
             "Change colors, as path:none, match:style:nobold or line:bg:0,128,255";
-        HyperlinkFormat, "hyperlink-format", None, Value::Format, [], "";
+        HyperlinkFormat, "hyperlink-format", None, Value::Format, [],
+            "Write links to files, as the name of a program or a format says; none by default";
         Pretty, "pretty", Some('p'), Value::Nothing, [], "As --color always --heading -n";
         LineBuffered, "line-buffered", None, Value::Nothing,
             [NoLineBuffered, BlockBuffered, NoBlockBuffered],
@@ -375,7 +375,6 @@ impl Value {
             Value::When => &["auto", "always", "never", "ansi"],
             Value::Order => &["none", "path", "modified", "accessed", "created"],
             Value::Engine => &["default", "auto"],
-            Value::Format => &["none"],
             Value::Kind => &[
                 "man",
                 "complete-bash",

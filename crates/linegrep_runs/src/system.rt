@@ -1,6 +1,6 @@
 //! The system of a row: the one that there is, but for the order in which it lists names, its
-//! environment, the times of its files, files that only the row has, and files that are links,
-//! pipes or on another file system for the row alone.
+//! environment, the times of its files, files that only the row has, where files are from the root
+//! of the system on, and files that are links, pipes or on another file system for the row alone.
 use grep_searcher::Open;
 use linegrep_cli::{FileId, Folders, Found, SortKey, System};
 use linegrep_files::Kind;
@@ -21,6 +21,8 @@ pub struct Said {
     times: Vec<Time>,
     // Where links lead, by their paths.
     links: Vec<Pair>,
+    // The paths from the root of the system on, by paths.
+    resolved: Vec<Pair>,
     // The paths of pipes, and of what is on another file system.
     pipes: Vec<Vec<u8>>,
     mounts: Vec<Vec<u8>>,
@@ -50,17 +52,20 @@ impl Said {
             files: Vec::new(alloc),
             times: Vec::new(alloc),
             links: Vec::new(alloc),
+            resolved: Vec::new(alloc),
             pipes: Vec::new(alloc),
             mounts: Vec::new(alloc),
         }
     }
 
-    /// Says what is at a path: by `link:`, the path, `=` and where it leads; by `pipe:` and the
-    /// path; or by `mount:` and the path of what is on another file system.
+    /// Says what is at a path: by `link:`, the path, `=` and where it leads; by `resolved:`, the
+    /// path, `=` and the path from the root of the system on; by `pipe:` and the path; or by
+    /// `mount:` and the path of what is on another file system.
     pub fn set_kind(&mut self, alloc: Global, text: &str) -> Result<(), AllocError> {
         let (kind, rest) = text.split_once(':').unwrap_or(("", text));
         match kind {
             "link" => self.links.push(read_pair(alloc, rest)?)?,
+            "resolved" => self.resolved.push(read_pair(alloc, rest)?)?,
             "pipe" => self.pipes.push(decoded(alloc, rest)?)?,
             _ => self.mounts.push(decoded(alloc, rest)?)?,
         }
@@ -258,6 +263,9 @@ impl Folders for RowSystem<'_, '_> {
     }
 
     fn resolve(&self, alloc: Global, path: &str) -> io::Result<String> {
+        if let Some(bytes) = bytes_of(&self.said.resolved, path) {
+            return text_of(alloc, bytes);
+        }
         let real = self.said.real(alloc, path)?;
         self.rt.resolve(alloc, real.as_str())
     }
@@ -278,10 +286,15 @@ impl Folders for RowSystem<'_, '_> {
         let Some(bytes) = bytes_of(&self.said.variables, name) else {
             return Ok(None);
         };
-        match String::from_utf8(Vec::from_slice(alloc, bytes)?) {
-            Ok(value) => Ok(Some(value)),
-            Err(_) => Err(io::Error::from(io::ErrorKind::InvalidData)),
-        }
+        Ok(Some(text_of(alloc, bytes)?))
+    }
+}
+
+// Bytes as a text.
+fn text_of(alloc: Global, bytes: &[u8]) -> io::Result<String> {
+    match String::from_utf8(Vec::from_slice(alloc, bytes)?) {
+        Ok(text) => Ok(text),
+        Err(_) => Err(io::Error::from(io::ErrorKind::InvalidData)),
     }
 }
 

@@ -18,7 +18,6 @@ returns c =
       c.end.ensures.value,
       c.line_kind.ensures,
       c.as_byte.ensures,
-      c.then_some.ensures,
       number,
     )
     at c.push_line.ensures

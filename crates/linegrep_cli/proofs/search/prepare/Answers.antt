@@ -1,11 +1,12 @@
-use Rattle.linegrep_cli.specs.Refusals.{of_colors, of_files, of_path_separator, of_patterns}
+use Rattle.linegrep_cli.specs.Refusals.{of_colors, of_files, of_hyperlink_format, of_path_separator, of_patterns}
 use Rattle.std.proofs.Common.{inl, inr}
 use Rattle.linegrep_cli.proofs.search.prepare.Goals as goal
 
 pub returns-in-Err-clause-refused : goal.returns-in-Err-clause-refused
 returns-in-Err-clause-refused g c = λ caused. elim (c.in-Err.ensures.refused caused) [
   | inl separator ↦ of_path_separator separator
-  | inr colors ↦ of_colors colors
+  | inr (inl colors) ↦ of_colors colors
+  | inr (inr format) ↦ of_hyperlink_format format
 ]
 
 pub returns-in-Err-read-clause-refused : goal.returns-in-Err-read-clause-refused

@@ -16,7 +16,7 @@ when C false gives is = is
 
 pub returns-in-Match : goal.returns-in-Match
 returns-in-Match c =
-    let layout : Layout = record { config = c.args.self.now; path = c.args.path; terminator = c.args.terminator } in
+    let layout : Layout = record { config = c.args.self.now; path = c.args.path.now; terminator = c.args.terminator } in
     let plain : is_plain layout.config layout.path ≡ true = search rules in
     let whole : writes_parts layout c.args.parts.now ≡ false = search rules in
     let report = c.args.report.now in
@@ -30,7 +30,7 @@ returns-in-Match c =
 
 pub returns-in-Context : goal.returns-in-Context
 returns-in-Context c =
-    let layout : Layout = record { config = c.args.self.now; path = c.args.path; terminator = c.args.terminator } in
+    let layout : Layout = record { config = c.args.self.now; path = c.args.path.now; terminator = c.args.terminator } in
     let plain : is_plain layout.config layout.path ≡ true = search rules in
     let whole : writes_parts layout c.args.parts.now ≡ false = search rules in
     rw c.in-Context.is (subst (Adds c.args.text.now c.push_line.new.text)
@@ -39,7 +39,7 @@ returns-in-Context c =
 
 pub returns-then-not-is_empty : goal.returns-then-not-is_empty
 returns-then-not-is_empty c =
-    let layout : Layout = record { config = c.args.self.now; path = c.args.path; terminator = c.args.terminator } in
+    let layout : Layout = record { config = c.args.self.now; path = c.args.path.now; terminator = c.args.terminator } in
     let plain : is_plain layout.config layout.path ≡ true = search rules in
     let writes : writes_parts layout c.args.parts.now ≡ true = search rules in
     when _ c.push_plain_parts.result

@@ -6,7 +6,7 @@ use Rattle.grep_printer.proofs.replaced_format.ReplacedFormat.push_replaced.Goal
 
 pub returns-clause-text : goal.returns-clause-text
 returns-clause-text g c =
-    let scene : Scene = record { path = c.args.path; settings = c.args.searcher.now.settings } in
+    let scene : Scene = record { path = c.args.path.now; settings = c.args.searcher.now.settings } in
     let made = replaced-is g.M.CapturesAt.groups_at c.of_report-replacement.result c.args.self.now.template.now
     c.args.self.now.matcher scene.settings (g.M.Matcher.facts c.args.self.now.matcher).meaning c.args.report.now
     c.with_bytes.result c.args.parts.now c.deref-3.result.now c.deref-2.result.now
@@ -20,7 +20,7 @@ returns-clause-text g c =
 
 pub returns-clause-next : goal.returns-clause-next
 returns-clause-next g c ok =
-    let scene : Scene = record { path = c.args.path; settings = c.args.searcher.now.settings } in
+    let scene : Scene = record { path = c.args.path.now; settings = c.args.searcher.now.settings } in
     let made = replaced-is g.M.CapturesAt.groups_at c.of_report-replacement.result c.args.self.now.template.now
     c.args.self.now.matcher scene.settings (g.M.Matcher.facts c.args.self.now.matcher).meaning c.args.report.now
     c.with_bytes.result c.args.parts.now c.deref-3.result.now c.deref-2.result.now
@@ -35,7 +35,7 @@ returns-clause-next g c ok =
 
 pub returns-clause-goes_on : goal.returns-clause-goes_on
 returns-clause-goes_on g c ok =
-    let scene : Scene = record { path = c.args.path; settings = c.args.searcher.now.settings } in
+    let scene : Scene = record { path = c.args.path.now; settings = c.args.searcher.now.settings } in
     let made = replaced-is g.M.CapturesAt.groups_at c.of_report-replacement.result c.args.self.now.template.now
     c.args.self.now.matcher scene.settings (g.M.Matcher.facts c.args.self.now.matcher).meaning c.args.report.now
     c.with_bytes.result c.args.parts.now c.deref-3.result.now c.deref-2.result.now

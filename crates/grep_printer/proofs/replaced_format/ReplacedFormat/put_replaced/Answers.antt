@@ -17,7 +17,7 @@ returns-in_default-clause-put g c = record {
 
 pub returns-clause-put : goal.returns-clause-put
 returns-clause-put g c =
-    let scene : Scene = record { path = c.args.path; settings = c.args.searcher.now.settings } in
+    let scene : Scene = record { path = c.args.path.now; settings = c.args.searcher.now.settings } in
     let made = replaced-is g.M.CapturesAt.groups_at c.of_report-replacement.result c.args.self.now.template.now
     c.args.self.now.matcher scene.settings (g.M.Matcher.facts c.args.self.now.matcher).meaning c.args.report.now
     c.with_bytes.result c.args.parts.now c.deref-3.result.now c.deref-2.result.now
@@ -32,7 +32,7 @@ returns-clause-put g c =
 
 pub returns-clause-next : goal.returns-clause-next
 returns-clause-next g c had =
-    let scene : Scene = record { path = c.args.path; settings = c.args.searcher.now.settings } in
+    let scene : Scene = record { path = c.args.path.now; settings = c.args.searcher.now.settings } in
     let made = replaced-is g.M.CapturesAt.groups_at c.of_report-replacement.result c.args.self.now.template.now
     c.args.self.now.matcher scene.settings (g.M.Matcher.facts c.args.self.now.matcher).meaning c.args.report.now
     c.with_bytes.result c.args.parts.now c.deref-3.result.now c.deref-2.result.now
@@ -47,7 +47,7 @@ returns-clause-next g c had =
 
 pub returns-clause-goes_on : goal.returns-clause-goes_on
 returns-clause-goes_on g c =
-    let scene : Scene = record { path = c.args.path; settings = c.args.searcher.now.settings } in
+    let scene : Scene = record { path = c.args.path.now; settings = c.args.searcher.now.settings } in
     let made = replaced-is g.M.CapturesAt.groups_at c.of_report-replacement.result c.args.self.now.template.now
     c.args.self.now.matcher scene.settings (g.M.Matcher.facts c.args.self.now.matcher).meaning c.args.report.now
     c.with_bytes.result c.args.parts.now c.deref-3.result.now c.deref-2.result.now

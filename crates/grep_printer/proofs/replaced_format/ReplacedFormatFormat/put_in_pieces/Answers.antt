@@ -7,7 +7,7 @@ use Rattle.grep_printer.proofs.replaced_format.ReplacedFormatFormat.put_in_piece
 
 pub returns-in-Some-clause-put : goal.returns-in-Some-clause-put
 returns-in-Some-clause-put g c =
-    let scene : Scene = record { path = c.args.path; settings = c.args.searcher.now.settings } in
+    let scene : Scene = record { path = c.args.path.now; settings = c.args.searcher.now.settings } in
     let replaced = event-replaced c.args.self.now.template.now (g.M.CapturesAt.groups_at c.args.self.now.matcher)
     c.args.searcher.now.settings (g.M.Matcher.facts c.args.self.now.matcher).meaning c.args.event.now
     c.in-Some.report.now c.args.parts.now c.in-Some.ensures
@@ -18,7 +18,7 @@ returns-in-Some-clause-put g c =
 
 pub returns-in-Some-clause-next : goal.returns-in-Some-clause-next
 returns-in-Some-clause-next g c =
-    let scene : Scene = record { path = c.args.path; settings = c.args.searcher.now.settings } in
+    let scene : Scene = record { path = c.args.path.now; settings = c.args.searcher.now.settings } in
     let replaced = event-replaced c.args.self.now.template.now (g.M.CapturesAt.groups_at c.args.self.now.matcher)
     c.args.searcher.now.settings (g.M.Matcher.facts c.args.self.now.matcher).meaning c.args.event.now
     c.in-Some.report.now c.args.parts.now c.in-Some.ensures
@@ -29,7 +29,7 @@ returns-in-Some-clause-next g c =
 
 pub returns-in-Some-clause-goes_on : goal.returns-in-Some-clause-goes_on
 returns-in-Some-clause-goes_on g c =
-    let scene : Scene = record { path = c.args.path; settings = c.args.searcher.now.settings } in
+    let scene : Scene = record { path = c.args.path.now; settings = c.args.searcher.now.settings } in
     let replaced = event-replaced c.args.self.now.template.now (g.M.CapturesAt.groups_at c.args.self.now.matcher)
     c.args.searcher.now.settings (g.M.Matcher.facts c.args.self.now.matcher).meaning c.args.event.now
     c.in-Some.report.now c.args.parts.now c.in-Some.ensures

@@ -10,7 +10,7 @@ use Rattle.grep_printer.proofs.standard.StandardFormatFormat.push_lines.Goals as
 pub returns-then-not-has_failed-clause-texts : goal.returns-then-not-has_failed-clause-texts
 returns-then-not-has_failed-clause-texts g c = λ taken there.
     let scene : Scene =
-    record { path = c.args.path; settings = c.args.searcher.now.settings } in
+    record { path = c.args.path.now; settings = c.args.searcher.now.settings } in
     let old = c.args.self.now in
     let shown : is_hidden old.progress c.args.searcher.now.settings.binary_detection ≡ false =
     search rules in

@@ -12,6 +12,6 @@ returns-clause-texts g c = λ taken there.
     || not (counts_parts c.args.self.now.config.kind)) ≡ true = search rules in
     let many : c.line_count-count.result
     ≡ length (lines c.args.lines.now.terminator (match_bytes c.args.lines.now)) = search rules in
-    match-counted (record { path = c.args._path; settings = c.args.searcher.now.settings })
+    match-counted (record { path = c.args._path.now; settings = c.args.searcher.now.settings })
     c.args.self.now.config c.args.lines.now _ _ _ _ c.requires.some on bare c.begin.ensures.text
     c.add.ensures many

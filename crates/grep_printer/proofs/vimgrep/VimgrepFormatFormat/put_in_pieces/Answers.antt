@@ -13,7 +13,7 @@ pub returns-in-Ok-clause-put : goal.returns-in-Ok-clause-put
 returns-in-Ok-clause-put g c =
     let lines = c.args.self.now.lines in
     let report = c.in-Report.report in
-    let scene : Scene = record { path = c.args.path; settings = c.args.searcher.now.settings } in
+    let scene : Scene = record { path = c.args.path.now; settings = c.args.searcher.now.settings } in
     let some : 0 < length c.args.parts.now = search rules in
     let shown : is_hidden lines.progress scene.settings.binary_detection ≡ false =
     ap (is_hidden lines.progress) (sym c.binary_detection.ensures) ∙ (sym c.is_hidden.ensures ∙ c.if-is_hidden.false) in
@@ -25,7 +25,7 @@ pub returns-in-Err-clause-put : goal.returns-in-Err-clause-put
 returns-in-Err-clause-put g c =
     let lines = c.args.self.now.lines in
     let report = c.in-Report.report in
-    let scene : Scene = record { path = c.args.path; settings = c.args.searcher.now.settings } in
+    let scene : Scene = record { path = c.args.path.now; settings = c.args.searcher.now.settings } in
     let some : 0 < length c.args.parts.now = search rules in
     let shown : is_hidden lines.progress scene.settings.binary_detection ≡ false =
     ap (is_hidden lines.progress) (sym c.binary_detection.ensures) ∙ (sym c.is_hidden.ensures ∙ c.if-is_hidden.false) in

@@ -6,14 +6,14 @@ use Rattle.linegrep_cli.proofs.counted_run.CountedRun.search.Goals as goal
 pub returns-clause-printed : goal.returns-clause-printed
 returns-clause-printed g c = record {
   printed = record {
-    begun = c.sink-sink.result;
+    begun = c.sink_with_path-sink.result;
     ended = c.search-result.new.sink;
     begins = record {
-      is_of = c.sink-sink.ensures.now;
-      writes_to = c.sink-sink.ensures.writes_to;
-      asks = c.sink-sink.ensures.matcher;
-      names = c.sink-sink.ensures.path;
-      format = c.sink-sink.ensures.format;
+      is_of = c.sink_with_path-sink.ensures.now;
+      writes_to = c.sink_with_path-sink.ensures.writes_to;
+      asks = c.sink_with_path-sink.ensures.matcher;
+      names = c.sink_with_path-sink.ensures.path;
+      format = c.sink_with_path-sink.ensures.format;
     };
     same = c.search-result.ensures.same;
     searches = rw c.keep.ensures.result c.search-result.ensures.printed;

@@ -5,17 +5,17 @@ use Rattle.linegrep_cli.proofs.json_run.JsonRun.search.Goals as goal
 
 pub returns-clause-written : goal.returns-clause-written
 returns-clause-written g c = record {
-  begun = c.sink-sink.result;
+  begun = c.sink_with_path-sink.result;
   ended = c.search-result.new.sink;
   result = c.search-result.result;
   elapsed = c.write_end-ended.ensures.end.0;
   counts = c.write_end-ended.result;
   begins = record {
-    is_of = c.sink-sink.ensures.now;
-    writes_to = c.sink-sink.ensures.writes_to;
-    asks = c.sink-sink.ensures.matcher;
-    names = c.sink-sink.ensures.path;
-    format = c.sink-sink.ensures.format;
+    is_of = c.sink_with_path-sink.ensures.now;
+    writes_to = c.sink_with_path-sink.ensures.writes_to;
+    asks = c.sink_with_path-sink.ensures.matcher;
+    names = c.sink_with_path-sink.ensures.path;
+    format = c.sink_with_path-sink.ensures.format;
   };
   searches = c.search-result.ensures.printed;
   has_match = c.keep.ensures.has_match ∙ (c.end-has_match.ensures.has_match

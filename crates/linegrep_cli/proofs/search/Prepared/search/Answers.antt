@@ -1,6 +1,8 @@
 use Rattle.std.proofs.Common.{◌∙◌, ap, subst, sym}
 use Rattle.grep_searcher.specs.Plans.{SearcherState, Settings, is_across}
 use Rattle.linegrep_cli.specs.ColorOptions.{AreColorTexts}
+use Rattle.std.specs.Borrow.{Bor}
+use Rattle.linegrep_cli.specs.HyperlinkOptions.{AreHyperlinks, AreHyperlinksLent}
 use Rattle.linegrep_cli.specs.PrinterOptions.{IsPrinterOf}
 use Rattle.linegrep_cli.specs.SearcherOptions.{searcher_settings}
 use Rattle.linegrep_cli.specs.SeparatorOptions.{IsSeparators}
@@ -42,6 +44,9 @@ returns g c =
           haystack = c.new-engine.ensures.haystack;
           says = c.new-engine.ensures.errors;
           path_separator = c.new-engine.ensures.path_separator ∙ c.requires.layout.path_separator;
+          hyperlinks = subst (AreHyperlinksLent _ options) (sym c.new-engine.ensures.hyperlinks)
+              (subst (AreHyperlinks _ options) (sym c.as_ref-4.ensures.value) c.requires.layout.hyperlinks);
+          asks_system = ap (λ (s : Bor _). s.now) c.new-engine.ensures.system;
           detection = c.new-engine.ensures.detection ∙ ap (λ (settings : Settings). settings.binary_detection) settings;
         };
         run = rw (c.new-run.ensures.system, c.new-run.ensures.scope, c.paths.ensures) at c.complete-status.ensures;
