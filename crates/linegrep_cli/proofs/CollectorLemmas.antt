@@ -33,7 +33,7 @@ use Rattle.linegrep_files.specs.declared.choices.Choices.{Choices}
 use Rattle.linegrep_files.specs.declared.entry.Entry.{Entry}
 use Rattle.linegrep_files.specs.declared.file_id.FileId.{FileId}
 
--- a collector as it stands: whether searches end at binary bytes, and what was found
+-- a collector, by whether searches end at binary bytes, and by what was found
 pub record Has (quits : Bool) (found : List Waiting) (collector : Collector) : Type 0 where
   pub quits_is : collector.quits ≡ quits
   pub found_is : collector.found.items ≡ found

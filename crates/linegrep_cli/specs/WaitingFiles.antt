@@ -44,7 +44,8 @@ pub record IsFound (target : Target) (path : List ℕ) (old : Collector) (search
       → IsUnsearched searched × (new.is_full ≡ true)
 
 -- a text is kept that is to be said, unless memory is out
-pub record IsTextKept (old : Collector) (said : Result (Unit {0}) Error) (new : Collector) : Type 0 where
+pub record IsTextKept (old : Collector) (said : Result (Unit {0}) Error)
+    (new : Collector) : Type 0 where
   pub found : new.found ≡ old.found
   pub quits : new.quits ≡ old.quits
   pub is_full : new.is_full ≡ old.is_full

@@ -1,6 +1,6 @@
 //! A run over files.
-ghost use Rattle.std.specs.Prelude.{◌≡◌, ◌↔◌, ◌&&◌, not, ℕ, [], false, true, length, IsTrue, Option, Result};
-ghost use Rattle.std.specs.Prelude.{None, String, if◌then◌else◌, string_bytes};
+ghost use Rattle.std.specs.Prelude.{◌≡◌, ◌↔◌, ◌&&◌, not, ℕ, [], false, true, length, IsTrue};
+ghost use Rattle.std.specs.Prelude.{None, Option, Result, String, if◌then◌else◌, string_bytes};
 ghost use Rattle.std.specs.Global.{Global};
 ghost use Rattle.std.specs.IoError.{error_kind};
 ghost use Rattle.std.specs.declared.io.ErrorKind.TheVariants.{BrokenPipe};

@@ -87,8 +87,8 @@ impl Scope {
         }
     }
 
-    /// The same to find what a run searches, before it searches anything. Each file is listed then,
-    /// and standard input isn't left out yet.
+    /// The scope with which a run finds what it searches, before it searches anything. Each file is
+    /// listed then, and standard input isn't left out yet.
     pub fn finding(&self) -> Scope
         ensures { result ≡ finding_scope self.now }
     {
