@@ -2,6 +2,8 @@
 ghost use Rattle.std.specs.Prelude.{◌≡◌, ◌≤◌, ◌<◌, ◌+◌, ◌-◌, ◌^◌, ◌↔◌, ℕ, IsTrue};
 
 use std::marker::Model;
+use std::ops::Range;
+use std::slice::SliceIndex;
 
 /// A range of positions in a haystack, in bytes, from its start up to its end, which is at least
 /// its start.
@@ -60,6 +62,16 @@ impl Match {
         self.end
     }
 
+    /// The positions of the range, for an index: `&haystack[found.range()]` is what matched.
+    #[inline]
+    pub fn range(&self) -> Range<usize>
+        ensures start { result.start ≡ self.now.0 }
+        ensures end { result.end ≡ self.now.1 }
+        ensures ordered { result.start ≤ result.end }
+    {
+        self.start..self.end
+    }
+
     /// The length of the range, in bytes.
     #[inline]
     pub fn len(&self) -> usize
@@ -100,5 +112,19 @@ impl Match {
             start: self.start,
             end,
         }
+    }
+}
+
+/// What `get` of a haystack gives for the range: the bytes in it, or `None` if it ends past the end
+/// of the haystack.
+impl<'h> SliceIndex<&'h [u8]> for Match {
+    ghost use Rattle.std.specs.Slice.{IsGetRangeResult};
+
+    type Output = &'h [u8];
+
+    ghost get_gives = { λ m haystack bytes. IsGetRangeResult haystack.now m.0 m.1 bytes };
+
+    fn pick(self, haystack: &'h [u8]) -> Option<&'h [u8]> {
+        haystack.get(self.start..self.end)
     }
 }

@@ -44,3 +44,14 @@ abbrev pub is_out_of_memory : {A : Type 0} → SearchError A → Bool
 is_out_of_memory (Message text) = false
 is_out_of_memory (Io error) = is_memory_kind (error_kind error)
 is_out_of_memory (Config error) = is_memory_fault error
+
+-- the kind of an `io::Error` of a fault of the configuration
+abbrev pub config_error_kind : ConfigError → ErrorKind
+config_error_kind Memory = OutOfMemory
+config_error_kind _ = Other
+
+-- an `io::Error` of an error of a search
+abbrev pub IsIoErrorOf : {A : Type 0} → SearchError A → Error → Type 0
+IsIoErrorOf (Message text) e = error_kind e ≡ Other
+IsIoErrorOf (Io error) e = e ≡ error
+IsIoErrorOf (Config error) e = error_kind e ≡ config_error_kind error

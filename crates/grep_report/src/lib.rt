@@ -4,6 +4,7 @@
 mod binary_detection;
 mod config_error;
 mod encoding;
+mod io_error;
 mod mmap_choice;
 mod sink_context;
 mod sink_error;

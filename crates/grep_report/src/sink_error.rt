@@ -15,8 +15,12 @@ use thiserror::Error as ThisError;
 /// text.
 pub trait SinkError<A: Allocator>: Sized {
     /// Which errors may be made of a message, given by the text that its `Display` writes, if that
-    /// text is known; of an `io::Error`; and of a `ConfigError`.
-    ghost makers: { ErrorMakers (Option (List ℕ)) Self };
+    /// text is known; of an `io::Error`; and of a `ConfigError`. By default it is any error.
+    ghost makers: { ErrorMakers (Option (List ℕ)) Self } = { record {
+      is_message = λ _ _. Unit {0};
+      is_io = λ _ _. Unit {0};
+      is_config = λ _ _. Unit {0};
+    } };
 
     /// The error of a message, such as a matcher's error. If there is no memory for its text, it is
     /// one of being out of memory.

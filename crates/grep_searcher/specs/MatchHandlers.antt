@@ -11,12 +11,20 @@ use Rattle.grep_definitions.specs.Plans.{Plan, Steps, IsRun, reported_bytes, rep
 use Rattle.grep_definitions.specs.Plans.{line_count, some_below, is_selected, is_touched_selected}
 use Rattle.grep_definitions.specs.Plans.{Settings}
 use Rattle.grep_definitions.specs.SearchLaws.{is_match, match_calls, match_of, matched_lines}
-use Rattle.grep_searcher.specs.SinkFolds.{fold_while, IsMatchOk, IsTakenBy}
+use Rattle.grep_searcher.specs.SinkFolds.{fold_while, IsTakenBy, IsTakenOk}
 
 -- the byte count of the end fits in 64 bits
 abbrev pub FitsAtEnd : Call → Type 0
 FitsAtEnd (finishes count binary) = count < 2 ^ 64
 FitsAtEnd _ = Unit {0}
+
+-- the steps of a sink that is made of what one match does, by this relation: any other call goes
+-- on, leaves the state alone and never fails. The byte count at the end fits in 64 bits
+module _ {S E : Type 0} (step : S → Call → Result Bool E → S → Type 0) where
+  abbrev pub IsMatchStep : Steps S E
+  IsMatchStep old settings call (Ok b) new =
+      IsTakenOk (λ old call b new. step old call (Ok b) new) old call b new × FitsAtEnd call
+  IsMatchStep old settings call (Err e) new = (is_match call ≡ true) × step old call (Err e) new
 
 module _ {H E : Type 0} (goes : H → Call → Bool) (next : H → Call → H)
     (fails : H → Call → E → H → Type 0) where
@@ -25,11 +33,9 @@ module _ {H E : Type 0} (goes : H → Call → Bool) (next : H → Call → H)
   IsHandled old call (Ok b) new = IsTakenBy goes next old call b new
   IsHandled old call (Err e) new = fails old call e new
 
-  -- the steps of a sink that passes each match to such a handler: any other call goes on, leaves
-  -- the handler alone and never fails. The byte count at the end fits in 64 bits
+  -- the steps of a sink that is made of such a handler
   abbrev pub IsHandlerStep : Steps H E
-  IsHandlerStep old settings call (Ok b) new = IsMatchOk goes next old call b new × FitsAtEnd call
-  IsHandlerStep old settings call (Err e) new = (is_match call ≡ true) × fails old call e new
+  IsHandlerStep = IsMatchStep IsHandled
 
   -- in a run that ended in `Ok`, of such a sink, the handler handled the matches that are reported,
   -- up to the first after which the search doesn't go on

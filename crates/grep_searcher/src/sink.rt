@@ -25,11 +25,12 @@ pub trait Sink {
     type Error;
 
     /// One call: the state before, the searcher's settings, the call with its data, what it
-    /// returned, the state after.
-    ghost step: { Self → Settings → Call → Result Bool Self.Error → Self → Type 0 };
+    /// returned, the state after. The default says nothing.
+    ghost step: { Self → Settings → Call → Result Bool Self.Error → Self → Type 0 } = { λ _ _ _ _ _. Unit {0} };
 
     /// Whether the sink may be called. The caller of a search ensures it, and each call keeps it.
-    ghost may_call: { Self → Type 0 };
+    /// By default it always may be.
+    ghost may_call: { Self → Type 0 } = { λ _. Unit {0} };
 
     /// A search begins. Returns whether it goes on; an error is the sink's own.
     fn begin<A: Allocator + Copy>(&mut self, searcher: &Searcher<A>) -> Result<bool, Self::Error>

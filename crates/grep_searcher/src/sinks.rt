@@ -1,7 +1,8 @@
 //! Ready sinks. `UTF8`, `Lossy`, `Bytes` and `Matches` call a closure at each match, and `Calls` at
 //! each call of a search; the closure returns whether the search goes on, and its error ends the
 //! search. `Count` counts the matches, `Reports` keeps each report, and `OnMatch` passes each match
-//! to a handler: `Found`, `First`, `Last`, `Collect`, `EachLine` or the caller's own.
+//! to a `MatchSink` of the caller's own, or to a handler: `Found`, `First`, `Last`, `Collect`,
+//! `EachLine` or the caller's own.
 ghost use Rattle.std.specs.Prelude.{◌≡◌, Some, None, MatchResult};
 ghost use Rattle.std.specs.IoError.{error_kind};
 ghost use Rattle.std.specs.declared.io.ErrorKind.TheVariants.{Other};
@@ -32,7 +33,7 @@ pub use kept_lines::{KeptLines, ReportKind};
 pub use kept_match::KeptMatch;
 pub use last::Last;
 pub use matches::Matches;
-pub use on_match::{MatchHandler, OnMatch};
+pub use on_match::{MatchHandler, MatchSink, OnMatch};
 pub use reports::Reports;
 use std::alloc::Allocator;
 use std::{io, str};
