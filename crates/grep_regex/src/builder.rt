@@ -1,7 +1,7 @@
 //! The builder of regular expressions.
 ghost use Rattle.std.specs.Prelude.{◌≡◌, if◌then◌else◌, true, [], ◌∷◌, map, option_map, IfOk};
 ghost use Rattle.std.specs.Prelude.{IfErr};
-ghost use Rattle.grep_regex.specs.Patterns.{default_options};
+ghost use Rattle.grep_regex.specs.Patterns.{default_options, meaning_of};
 ghost use Rattle.grep_regex.specs.Refusals.{AreAccepted, IsRefusal};
 ghost use Rattle.grep_regex.specs.Sizes.{AreSized};
 ghost use Rattle.grep_regex.specs.Views.{regex_options, regex_patterns, regex_programs};
@@ -89,7 +89,7 @@ impl RegexMatcherBuilder {
             (λ regex. AreSized self.now (pattern.now ∷ []) (regex_programs regex)) }
         ensures error { IfErr result (IsRefusal self.now (pattern.now ∷ [])) }
     {
-        Regex::new(alloc, self.options, &[pattern])
+        Regex::compile(alloc, self.options, &[pattern])
     }
 
     /// Compiles patterns as alternatives: at a position the first one that matches wins. With no
@@ -109,7 +109,7 @@ impl RegexMatcherBuilder {
             (λ regex. AreSized self.now (map (λ p. p.now) patterns.now) (regex_programs regex)) }
         ensures error { IfErr result (IsRefusal self.now (map (λ p. p.now) patterns.now)) }
     {
-        Regex::new(alloc, self.options, patterns)
+        Regex::compile(alloc, self.options, patterns)
     }
 
     /// Compiles literals, as `build_many` does under `fixed_strings`.
@@ -127,7 +127,7 @@ impl RegexMatcherBuilder {
     {
         let mut options = self.options;
         options.fixed_strings = true;
-        Regex::new(alloc, options, literals)
+        Regex::compile(alloc, options, literals)
     }
 
     /// Whether letters match in either case; not by default.
@@ -285,6 +285,18 @@ impl RegexMatcherBuilder {
 impl Regex {
     ghost use Rattle.grep_regex.specs.LinePatterns.{line_meaning, line_options};
     ghost use Rattle.grep_regex.specs.Views.{regex_meaning};
+
+    /// Compiles a pattern with the default options, as upstream's `RegexMatcher::new` does. Its
+    /// matchers declare no line terminator, so that most are asked about each line alone: for the
+    /// lines of a search `for_lines` is faster. See `RegexMatcherBuilder::build_many` for errors.
+    pub fn new(alloc: Global, pattern: &str) -> Result<Regex, Error>
+        ensures meaning { IfOk result
+            (λ regex. regex_meaning regex ≡ meaning_of default_options (pattern.now ∷ [])) }
+        ensures accepted { IfOk result (λ _. AreAccepted default_options (pattern.now ∷ [])) }
+        ensures error { IfErr result (IsRefusal default_options (pattern.now ∷ [])) }
+    {
+        RegexMatcherBuilder::new().build(alloc, pattern)
+    }
 
     /// Compiles a pattern for the lines of a search: `^` and `$` match at the ends of a line, and
     /// its matchers declare a line feed as the line terminator, as those of upstream's

@@ -42,6 +42,14 @@ use std::sync::Arc;
 
 /// A compiled regular expression, with its options and the texts of its patterns. It doesn't
 /// search: `matcher` gives what does. Its clones share what was compiled.
+///
+/// What upstream's `RegexMatcher::new` is in one line are two here, since a matcher borrows its
+/// expression:
+///
+/// ```text
+/// let regex = Regex::new(alloc, pattern)?;
+/// let matcher = regex.matcher(alloc)?;
+/// ```
 pub struct Regex {
     shared: Arc<Shared>,
 }
@@ -136,7 +144,11 @@ impl Regex {
     ghost use Rattle.grep_regex.specs.Views.{searcher_program};
 
     // Compiles the alternation of the patterns.
-    pub(crate) fn new(alloc: Global, options: Options, patterns: &[&str]) -> Result<Regex, Error>
+    pub(crate) fn compile(
+        alloc: Global,
+        options: Options,
+        patterns: &[&str],
+    ) -> Result<Regex, Error>
         ensures options { IfOk result (λ r. regex_options r ≡ options) }
         ensures patterns { IfOk result (λ r. regex_patterns r ≡ map (λ p. p.now) patterns.now) }
         ensures accepted { IfOk result

@@ -2,9 +2,9 @@ use Rattle.grep_regex.proofs.builder.RegexMatcherBuilder.build_literals.Goals as
 
 pub returns : goal.returns
 returns c = rw (← c.self.view_is) (record {
-  options = c.new.ensures.options;
-  patterns = c.new.ensures.patterns;
-  accepted = c.new.ensures.accepted;
-  sized = c.new.ensures.sized;
-  error = c.new.ensures.error;
+  options = c.compile.ensures.options;
+  patterns = c.compile.ensures.patterns;
+  accepted = c.compile.ensures.accepted;
+  sized = c.compile.ensures.sized;
+  error = c.compile.ensures.error;
 })

@@ -5,7 +5,7 @@ use Rattle.grep_regex.specs.AbsentBytes.{is_absent}
 use Rattle.grep_regex.specs.Patterns.{AvoidsAbsent, FindsAs, FindsSpans}
 use Rattle.grep_regex.specs.Programs.{capturing_program}
 use Rattle.grep_regex.specs.Sizes.{AreSized}
-use Rattle.grep_regex.proofs.regex.Regex.new.Goals as goal
+use Rattle.grep_regex.proofs.regex.Regex.compile.Goals as goal
 
 pub invariant_of-shared : goal.invariant_of-shared
 invariant_of-shared c =
