@@ -1,0 +1,26 @@
+//! The examples of upstream's pages, written for this library, for someone who comes from Rust.
+//! Each names the page that it corresponds to. `CALLING.md` shows the lines that differ from Rust.
+//!
+//! None of them promises more than that it is safe and returns: none has a contract.
+#![tactic(auto)]
+
+mod about;
+mod closure;
+mod files;
+mod groups;
+mod lines;
+mod patterns;
+mod printed;
+mod sink;
+mod stdin;
+#[cfg(test)]
+mod tests;
+
+pub use closure::first_matches;
+pub use files::simplegrep;
+pub use groups::swapped;
+pub use lines::{counts, in_encoding};
+pub use patterns::{first_match, matches_any, matches_word};
+pub use printed::{json_messages, match_count, standard_lines};
+pub use sink::{Longest, longest_match};
+pub use stdin::{search_stdin, write_matches};
