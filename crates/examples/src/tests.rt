@@ -32,12 +32,16 @@ fn is_refused<T: Drop, E: Display + Drop>(alloc: Global, ended: Result<T, E>, pa
     }
 }
 
+// Whether a line has this number, and this first match.
+fn is_line(line: &(u64, String), number: u64, text: &str) -> bool {
+    line.0 == number && line.1.as_str() == text
+}
+
 fn finds_first(alloc: Global) -> io::Result<bool> {
     let matches = first_matches(alloc, r"water the \w+", GARDEN)?;
     Ok(match matches.as_slice() {
-        [(1, first), (3, second)] => {
-            first.as_str() == "water the ferns" && second.as_str() == "water the ferns"
-        }
+        [first, second] => is_line(first, 1, "water the ferns")
+            && is_line(second, 3, "water the ferns"),
         _ => false,
     })
 }
