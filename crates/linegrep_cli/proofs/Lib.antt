@@ -18,3 +18,12 @@ pub mod ToldLemmas
 pub mod VisitTextLemmas
 pub mod WaitingLemmas
 pub mod WordLemmas
+pub mod HitTextLemmas
+pub mod MatchPlanLemmas
+pub mod MatchWalkLemmas
+pub mod PlainTextLemmas
+pub mod TextSearchLemmas
+pub mod UnusedOptionLemmas
+pub mod PlainSettingLemmas
+pub mod OneInputLemmas
+pub mod PrinterChoiceLemmas

@@ -3,6 +3,7 @@ pub mod ColorLooks
 pub mod ColorOptions
 pub mod ConfigFiles
 pub mod ConfigWords
+pub mod Corollaries
 pub mod CountedRuns
 pub mod EngineCalls
 pub mod EngineSteps

@@ -1,0 +1,105 @@
+-- The settings of a search, and of the printer, by options that change nothing of them.
+use Rattle.std.proofs.Common.{◌≡◌, ◌∙◌, ℕ, Bool, true, false, List, [], ◌∷◌, Option, None, Some, ap}
+use Rattle.std.proofs.Common.{if◌then◌else◌, inr, refl, subst, sym}
+use Rattle.std.specs.Borrow.{Bor}
+use Rattle.std.specs.Option.{option_or, unwrap_or}
+use Rattle.std.specs.Prelude.{◌&&◌, ◌||◌, not}
+use Rattle.grep_searcher.specs.BuiltSettings.{built}
+use Rattle.grep_searcher.specs.HitLines.{IsFilter}
+use Rattle.grep_searcher.specs.Plans.{Settings}
+use Rattle.grep_searcher.specs.declared.BinaryDetection.{BinaryDetection}
+use Rattle.grep_searcher.specs.declared.BinaryDetection.TheVariants.{None as no_detection, Quit}
+use Rattle.grep_searcher.specs.declared.BinaryDetection.TheVariants.{Convert}
+use Rattle.grep_searcher.specs.declared.LineTerminator.TheVariants.{Byte}
+use Rattle.linegrep_cli.proofs.MatchPlanLemmas.{ReportsMatches}
+use Rattle.linegrep_cli.proofs.TextSearchLemmas.{LooksForNul}
+use Rattle.linegrep_cli.proofs.UnusedOptionLemmas.{has-none, number-none, others, value-none}
+use Rattle.linegrep_cli.specs.Corollaries.{UseOnly, changes_more}
+use Rattle.linegrep_cli.specs.OptionMeanings.{after_lines, before_lines, shows_columns, shows_numbers}
+use Rattle.linegrep_cli.specs.OptionUses.{has}
+use Rattle.linegrep_cli.specs.PrintingEngines.{detection_with}
+use Rattle.linegrep_cli.specs.SearchTexts.{settings_for}
+use Rattle.linegrep_cli.specs.SearcherOptions.{asked_settings, detection_of, searcher_settings}
+use Rattle.linegrep_cli.specs.declared.options.Options.{Options}
+use Rattle.linegrep_options.specs.declared.option_id.OptionId.{OptionId}
+use Rattle.linegrep_options.specs.declared.option_id.OptionId.TheVariants.{AfterContext}
+use Rattle.linegrep_options.specs.declared.option_id.OptionId.TheVariants.{BeforeContext, Context}
+use Rattle.linegrep_options.specs.declared.option_id.OptionId.TheVariants.{Crlf, Files, Multiline}
+use Rattle.linegrep_options.specs.declared.option_id.OptionId.TheVariants.{NullData, Passthru}
+use Rattle.linegrep_options.specs.declared.option_id.OptionId.TheVariants.{StopOnNonmatch}
+
+-- no such option is allowed
+abbrev pub IsRefused : List OptionId → OptionId → Type 0
+IsRefused allowed option = changes_more allowed option ≡ true
+
+-- none is allowed that changes lines, their terminators or their context
+pub record KeepLines (allowed : List OptionId) : Type 0 where
+  pub files : IsRefused allowed Files
+  pub multiline : IsRefused allowed Multiline
+  pub crlf : IsRefused allowed Crlf
+  pub null_data : IsRefused allowed NullData
+  pub passthru : IsRefused allowed Passthru
+  pub after : IsRefused allowed AfterContext
+  pub before : IsRefused allowed BeforeContext
+  pub context : IsRefused allowed Context
+  pub stop : IsRefused allowed StopOnNonmatch
+
+-- the settings of a search by line at line feeds, which reports matches alone
+pub record ArePlainSettings (k : Settings) : Type 0 where
+  pub by_feeds : k.line_terminator ≡ Byte 10
+  pub single : k.multi_line ≡ false
+  pub reports : ReportsMatches k
+  pub looks : LooksForNul k.binary_detection
+
+looks-for : (b : Bool) → LooksForNul (if b then no_detection else Convert 0)
+looks-for true = tt
+looks-for false = refl
+
+looks-with : (quits : Bool) (detection : BinaryDetection) → LooksForNul detection
+    → LooksForNul (detection_with quits detection)
+looks-with quits no_detection looks = tt
+looks-with quits (Quit byte) looks = looks
+looks-with true (Convert byte) looks = looks
+looks-with false (Convert byte) looks = looks
+
+module _ (allowed : List OptionId) (options : Options) (only : UseOnly allowed options)
+    (keep : KeepLines allowed) (quits : Bool) where
+  none : (option : OptionId) → IsRefused allowed option → has options option ≡ false
+  none option refused = has-none allowed options only option refused
+
+  -- the settings aren't those of files that are listed
+  pub asked : searcher_settings options ≡ built (asked_settings options)
+  asked = rw (none Files keep.files) refl
+
+  pub no-after : after_lines options ≡ 0
+  no-after = rw (none Passthru keep.passthru, none AfterContext keep.after, none Context keep.context) refl
+
+  pub no-before : before_lines options ≡ 0
+  no-before =
+      rw (none Passthru keep.passthru, none BeforeContext keep.before, none Context keep.context) refl
+
+  asked-after : (if has options Passthru then 0 else after_lines options) ≡ 0
+  asked-after = rw (none Passthru keep.passthru, none AfterContext keep.after, none Context keep.context) refl
+
+  asked-before : (if has options Passthru then 0 else before_lines options) ≡ 0
+  asked-before =
+      rw (none Passthru keep.passthru, none BeforeContext keep.before, none Context keep.context) refl
+
+  pub plain-settings : ArePlainSettings (settings_for (searcher_settings options) quits)
+  plain-settings = record {
+    by_feeds = ap (λ (s : Settings). s.line_terminator) asked
+        ∙ rw (none NullData keep.null_data, none Crlf keep.crlf) refl;
+    single = ap (λ (s : Settings). s.multi_line) asked ∙ none Multiline keep.multiline;
+    reports = record {
+      filter = record {
+        unstopped = ap (λ (s : Settings). s.stop_on_nonmatch) asked ∙ none StopOnNonmatch keep.stop;
+        untrailed = inr (ap (λ (s : Settings). s.after_context) asked
+            ∙ asked-after);
+      };
+      after = ap (λ (s : Settings). s.after_context) asked ∙ asked-after;
+      before = ap (λ (s : Settings). s.before_context) asked ∙ asked-before;
+      few = ap (λ (s : Settings). s.passthru) asked ∙ none Passthru keep.passthru;
+    };
+    looks = looks-with quits (searcher_settings options).binary_detection
+        (subst LooksForNul (sym (ap (λ (s : Settings). s.binary_detection) asked)) (looks-for _));
+  }

@@ -1,0 +1,142 @@
+-- The texts of matches as lines as they are, and what a format keeps of them.
+use Rattle.std.proofs.Common.{◌≡◌, ◌∙◌, ℕ, zero, suc, ◌+◌, Bool, true, false, List, [], ◌∷◌, ◌++◌}
+use Rattle.std.proofs.Common.{Option, None, Some, ap, arith, if◌then◌else◌, length, refl, subst, sym}
+use Rattle.std.proofs.lemmas.Bool.{lt-ltb}
+use Rattle.std.specs.Prelude.{◌&&◌, ◌==◌, is_some, nat_lt, not}
+use Rattle.grep_matcher.specs.Lines.{byte_of}
+use Rattle.grep_printer.proofs.PlainLineLemmas.{lines-plain}
+use Rattle.grep_printer.specs.ColoredTexts.{path_color}
+use Rattle.grep_printer.specs.CountedTexts.{counted_rules}
+use Rattle.grep_printer.specs.Formats.{PrintedCall, Scene}
+use Rattle.grep_printer.specs.LineTexts.{end_byte, is_plain, path_field, plain_lines, separator_text}
+use Rattle.grep_printer.specs.PartTexts.{column_of, match_text, writes_parts}
+use Rattle.grep_printer.specs.StandardTexts.{call_text, goes_on, is_hidden, layout_of, message_text}
+use Rattle.grep_printer.specs.StandardTexts.{progress_after, report_text, standard_rules, text_before}
+use Rattle.grep_printer.specs.declared.config.Config.{Config}
+use Rattle.grep_printer.specs.declared.counted.CountedFormat.{CountedFormat}
+use Rattle.grep_printer.specs.declared.standard.Progress.{Progress}
+use Rattle.grep_printer.specs.declared.standard.StandardFormat.{StandardFormat}
+use Rattle.grep_searcher.specs.BinaryDetections.{convert_byte_of}
+use Rattle.grep_searcher.specs.Lines.{lines}
+use Rattle.grep_searcher.specs.Plans.{Call, begins, binary_data, breaks, context, finishes, matches}
+use Rattle.grep_searcher.specs.SearchLaws.{is_match}
+use Rattle.linegrep_cli.proofs.MatchWalkLemmas.{AreSteps, IsStep}
+
+-- the lines of a call that reports a match, each after its number, if it has one
+abbrev pub plain-text : ℕ → Call → List ℕ
+plain-text terminator (matches number offset bytes around) =
+    plain_lines terminator 58 number (lines terminator bytes)
+plain-text terminator call = []
+
+-- settings by which lines are written as they are
+pub record WritesLines (config : Config) (scene : Scene) : Type 0 where
+  pub plain : is_plain config scene.path ≡ true
+  pub whole : config.only_matching ≡ false
+  pub no_heading : config.heading ≡ false
+
+-- nothing was written before a search, and no binary byte was found in it
+pub record IsPlainProgress (progress : Progress) (count : ℕ) : Type 0 where
+  pub first : progress.follows ≡ false
+  pub no_binary : progress.binary ≡ None
+  pub found : progress.has_match ≡ nat_lt 0 count
+
+none-either : (b : Bool) (xs ys : List ℕ) → xs ≡ [] → ys ≡ [] → (if b then xs else ys) ≡ []
+none-either true xs ys left right = left
+none-either false xs ys left right = right
+
+module _ (config : Config) (progress : Progress) (scene : Scene) (count : ℕ)
+    (writes : WritesLines config scene) (is : IsPlainProgress progress count) where
+  shown : is_hidden progress scene.settings.binary_detection ≡ false
+  shown = ap (λ (b : Option ℕ). is_some b
+      && is_some (convert_byte_of scene.settings.binary_detection)) is.no_binary
+
+  no-opening : text_before (layout_of config scene) progress ≡ []
+  no-opening = none-either progress.is_open [] _ refl (rw (is.first, writes.no_heading) refl)
+
+  no-parts : (parts : List (ℕ × ℕ)) → writes_parts (layout_of config scene) parts ≡ false
+  no-parts parts = ap (λ b. b && not (length parts == 0)) writes.whole
+
+  match-lines : (number : Option ℕ) (offset : ℕ) (bytes : List ℕ) (parts : List (ℕ × ℕ))
+      → match_text (layout_of config scene) number offset bytes parts
+      ≡ plain_lines (end_byte (layout_of config scene)) 58 number
+      (lines (end_byte (layout_of config scene)) bytes)
+  match-lines number offset bytes parts = rw (no-parts parts)
+      (lines-plain (layout_of config scene) _ writes.plain
+      (record { number = number; column = column_of parts; offset = offset; start = 0 }) parts
+      (lines (end_byte (layout_of config scene)) bytes))
+
+  pub call-plain : (call : Call) (parts : List (ℕ × ℕ)) → is_match call ≡ true
+      → call_text config progress scene call parts
+      ≡ plain-text (byte_of scene.settings.line_terminator) call
+  call-plain begins parts hit = absurd cc
+  call-plain (matches number offset bytes around) parts hit =
+      ap (λ b. if b then [] else text_before (layout_of config scene) progress
+      ++ match_text (layout_of config scene) number offset bytes parts) shown
+      ∙ (ap (λ (xs : List ℕ). xs ++ match_text (layout_of config scene) number offset bytes parts) no-opening
+      ∙ match-lines number offset bytes parts)
+  call-plain (context kind number offset line) parts hit = absurd cc
+  call-plain breaks parts hit = absurd cc
+  call-plain (binary_data offset) parts hit = absurd cc
+  call-plain (finishes bytes binary) parts hit = absurd cc
+
+  -- after a match more
+  pub match-more : (call : Call) → is_match call ≡ true
+      → IsPlainProgress (progress_after progress call) (suc count)
+  match-more begins hit = absurd cc
+  match-more (matches number offset bytes around) hit = record {
+    first = is.first;
+    no_binary = is.no_binary;
+    found = sym (lt-ltb 0 (suc count) (omega arith));
+  }
+  match-more (context kind number offset line) hit = absurd cc
+  match-more breaks hit = absurd cc
+  match-more (binary_data offset) hit = absurd cc
+  match-more (finishes bytes binary) hit = absurd cc
+
+  pub goes-on : (call : Call) → is_match call ≡ true
+      → goes_on progress scene.settings.binary_detection call ≡ true
+  goes-on begins hit = absurd cc
+  goes-on (matches number offset bytes around) hit = ap not shown
+  goes-on (context kind number offset line) hit = absurd cc
+  goes-on breaks hit = absurd cc
+  goes-on (binary_data offset) hit = absurd cc
+  goes-on (finishes bytes binary) hit = absurd cc
+
+-- nothing is written at the end
+pub end-none : (config : Config) (progress : Progress) (scene : Scene) (count : ℕ)
+    (parts : List (ℕ × ℕ)) → call_text config progress scene (finishes count None) parts ≡ []
+end-none config progress scene count parts =
+    none-either progress.has_match [] [] refl refl
+
+module _ (scene : Scene) where
+  -- what a format that counts nothing keeps, after so many matches
+  pub record IsPlainFormat (count : ℕ) (counted : CountedFormat StandardFormat) : Type 0 where
+    pub writes : WritesLines counted.format.config scene
+    pub progress : IsPlainProgress counted.format.progress count
+
+  pub standard-steps : (HasParts : CountedFormat StandardFormat → PrintedCall → Type 0)
+      → AreSteps (counted_rules standard_rules) scene HasParts IsPlainFormat
+      (plain-text (byte_of scene.settings.line_terminator))
+  standard-steps HasParts = record {
+    begin = λ counted printed good is. record {
+      goes = ap (goes_on counted.format.progress scene.settings.binary_detection) is;
+      good = record {
+        writes = good.writes;
+        progress = subst (λ call. IsPlainProgress (progress_after counted.format.progress call) 0)
+            (sym is) good.progress;
+      };
+      text_is = ap (λ call. call_text counted.format.config counted.format.progress scene call
+          printed.parts) is;
+    };
+    match = λ count counted printed good hit. record {
+      goes = goes-on counted.format.config counted.format.progress scene count good.writes
+          good.progress printed.call hit;
+      good = record {
+        writes = good.writes;
+        progress = match-more counted.format.config counted.format.progress scene count good.writes
+            good.progress printed.call hit;
+      };
+      text_is = call-plain counted.format.config counted.format.progress scene count good.writes
+          good.progress printed.call printed.parts hit;
+    };
+  }

@@ -1,0 +1,173 @@
+-- What the theorem of a run comes to if one input is searched, in the words of a user: which lines
+-- of it are written, their number, or its path, and the status.
+use Rattle.std.specs.Prelude.{◌≡◌, ◌≢◌, ◌⊎◌, ℕ, ◌+◌, ◌==◌, Bool, true, false, not, ◌&&◌}
+use Rattle.std.specs.Prelude.{if◌then◌else◌, All, List, [], ◌∷◌, ◌++◌, count_by, decimal, filter, take}
+use Rattle.std.specs.Prelude.{Option, None, Some, is_some, Result, Ok}
+use Rattle.std.specs.Borrow.{Bor}
+use Rattle.std.specs.List.{enumerate_from, flat_map, list_any}
+use Rattle.std.specs.declared.alloc.AllocError.{AllocError}
+use Rattle.std.specs.declared.io.Error.{Error}
+use Rattle.grep_printer.specs.LineTexts.{missing_end}
+use Rattle.grep_printer.specs.StatsSums.{capped}
+use Rattle.grep_printer.specs.declared.hyperlinks.PrinterPath.{PrinterPath}
+use Rattle.grep_regex.specs.Views.{regex_meaning}
+use Rattle.grep_regex.specs.declared.regex.Regex.{Regex}
+use Rattle.grep_searcher.specs.Lines.{lines, strip}
+use Rattle.grep_searcher.specs.Meanings.{MatcherFacts}
+use Rattle.grep_searcher.specs.Searches.{searched_bytes}
+use Rattle.grep_searcher.specs.Source.{ReadResult}
+use Rattle.grep_searcher.specs.declared.LineTerminator.TheVariants.{Byte}
+use Rattle.linegrep_cli.specs.OperandRuns.{is_input}
+use Rattle.linegrep_cli.specs.OptionMeanings.{paths_of}
+use Rattle.linegrep_cli.specs.OptionUses.{has}
+use Rattle.linegrep_cli.specs.OptionValues.{AreOptions}
+use Rattle.linegrep_cli.specs.SearchTexts.{Input, MayHave}
+use Rattle.linegrep_cli.specs.SearcherOptions.{searcher_settings}
+use Rattle.linegrep_cli.specs.WholeRuns.{literal_facts, literal_first_at, literal_groups_at}
+use Rattle.linegrep_cli.specs.WholeRuns.{named_facts, named_first_at}
+use Rattle.linegrep_cli.specs.WholeRuns.{named_groups_at, naming_of}
+use Rattle.linegrep_cli.specs.WrittenRuns.{HasWritten}
+use Rattle.linegrep_cli.specs.declared.lists.Lists.{Lists}
+use Rattle.linegrep_cli.specs.declared.options.Options.{Options}
+use Rattle.linegrep_cli.specs.declared.program.Streams.{Streams}
+use Rattle.linegrep_files.specs.FolderFacts.{FolderFacts}
+use Rattle.linegrep_files.specs.declared.file_id.FileId.{FileId}
+use Rattle.linegrep_options.specs.OptionUses.{is_same}
+use Rattle.linegrep_options.specs.declared.option_id.OptionId.{OptionId}
+use Rattle.linegrep_options.specs.declared.option_id.OptionId.TheVariants.{AfterContext}
+use Rattle.linegrep_options.specs.declared.option_id.OptionId.TheVariants.{BeforeContext, ByteOffset}
+use Rattle.linegrep_options.specs.declared.option_id.OptionId.TheVariants.{Color, Column, Context}
+use Rattle.linegrep_options.specs.declared.option_id.OptionId.TheVariants.{ContextSeparator, Count}
+use Rattle.linegrep_options.specs.declared.option_id.OptionId.TheVariants.{CountMatches, Crlf}
+use Rattle.linegrep_options.specs.declared.option_id.OptionId.TheVariants.{FieldContextSeparator}
+use Rattle.linegrep_options.specs.declared.option_id.OptionId.TheVariants.{FieldMatchSeparator}
+use Rattle.linegrep_options.specs.declared.option_id.OptionId.TheVariants.{Files, FilesWithMatches}
+use Rattle.linegrep_options.specs.declared.option_id.OptionId.TheVariants.{FilesWithoutMatch}
+use Rattle.linegrep_options.specs.declared.option_id.OptionId.TheVariants.{Heading, IncludeZero}
+use Rattle.linegrep_options.specs.declared.option_id.OptionId.TheVariants.{InvertMatch, Json}
+use Rattle.linegrep_options.specs.declared.option_id.OptionId.TheVariants.{LineNumber, MaxColumns}
+use Rattle.linegrep_options.specs.declared.option_id.OptionId.TheVariants.{MaxCount, Multiline}
+use Rattle.linegrep_options.specs.declared.option_id.OptionId.TheVariants.{NoContextSeparator}
+use Rattle.linegrep_options.specs.declared.option_id.OptionId.TheVariants.{NoLineNumber, Null}
+use Rattle.linegrep_options.specs.declared.option_id.OptionId.TheVariants.{NullData, OnlyMatching}
+use Rattle.linegrep_options.specs.declared.option_id.OptionId.TheVariants.{Passthru, Pretty, Quiet}
+use Rattle.linegrep_options.specs.declared.option_id.OptionId.TheVariants.{Replace, Sort, Sortr}
+use Rattle.linegrep_options.specs.declared.option_id.OptionId.TheVariants.{Stats, StopOnNonmatch}
+use Rattle.linegrep_options.specs.declared.option_id.OptionId.TheVariants.{Trim, Vimgrep}
+use Rattle.linegrep_options.specs.declared.option_id.OptionId.TheVariants.{WithFilename}
+use Rattle.linegrep_options.specs.declared.uses.Use.{Use}
+
+-- The options that change which lines of a file are written, or how. All others say what the
+-- pattern means, which files are searched, or what is said of them on standard error.
+abbrev pub changing_options : List OptionId
+changing_options = Quiet ∷ Count ∷ CountMatches ∷ IncludeZero ∷ FilesWithMatches
+    ∷ FilesWithoutMatch ∷ Files ∷ Json ∷ Vimgrep ∷ OnlyMatching ∷ Replace ∷ InvertMatch ∷ Multiline
+    ∷ StopOnNonmatch ∷ MaxCount ∷ Crlf ∷ NullData ∷ Passthru ∷ AfterContext ∷ BeforeContext
+    ∷ Context ∷ ContextSeparator ∷ NoContextSeparator ∷ FieldMatchSeparator ∷ FieldContextSeparator
+    ∷ LineNumber ∷ NoLineNumber ∷ Column ∷ ByteOffset ∷ WithFilename ∷ Null ∷ Heading ∷ Pretty
+    ∷ Color ∷ MaxColumns ∷ Trim ∷ Stats ∷ Sort ∷ Sortr ∷ []
+
+-- whether an option is one of some
+abbrev pub is_among : List OptionId → OptionId → Bool
+is_among options option = list_any (is_same option) options
+
+-- whether an option is one of those, but none of some others
+abbrev pub changes_more : List OptionId → OptionId → Bool
+changes_more allowed option = is_among changing_options option && not (is_among allowed option)
+
+-- options use none of those but some that are allowed, and standard output is no terminal
+pub record UseOnly (allowed : List OptionId) (options : Options) : Type 0 where
+  pub uses : Bor (List Use)
+  pub lists : Lists
+  pub streams : Streams
+  pub are_options : AreOptions uses lists streams options
+  pub no_other : All (λ one. changes_more allowed one.id ≡ false) uses.now
+  pub no_terminal : streams.is_terminal ≡ false
+
+-- the text that is searched of an input: a content that it may have, decoded. It has no NUL
+pub record IsTextOfInput (options : Options) (one : Input) (text : List ℕ) : Type 0 where
+  pub content : List ℕ
+  pub may_have : MayHave one content
+  pub decoded : text ≡ searched_bytes (searcher_settings options) content
+  pub no_nul : All (λ byte. byte ≢ 0) text
+
+-- whether a line matches a regular expression, without its line feed
+abbrev pub is_matched_by : Regex → List ℕ → Bool
+is_matched_by regex line = is_some ((regex_meaning regex).first (strip (Byte 10) line))
+
+-- the lines of a text that match, and whether one does
+abbrev pub matching : Regex → List ℕ → List (List ℕ)
+matching regex text = filter (is_matched_by regex) (lines 10 text)
+
+abbrev pub has_matching : Regex → List ℕ → Bool
+has_matching regex text = list_any (is_matched_by regex) (lines 10 text)
+
+-- a line as it is written: with a line feed at its end, which the last line of a text may lack
+abbrev pub ended : List ℕ → List ℕ
+ended line = line ++ missing_end 10 line
+
+-- a line after its number, which is one more than that of the lines before it
+abbrev pub numbered : ℕ × List ℕ → List ℕ
+numbered one = decimal (one.0 + 1) ++ 58 ∷ ended one.1
+
+-- a number in a line of its own, unless it is 0
+abbrev pub counted_line : ℕ → List ℕ
+counted_line count = if count == 0 then [] else decimal (capped count) ++ 10 ∷ []
+
+-- What is said of a run: by its options, the expression that it searches for, the path that is
+-- written of its input, the text that it searches, whether it has written a text, and its status
+abbrev pub Claim : Type 1
+Claim = Options → Regex → Option PrinterPath → List ℕ → (List ℕ → Type 0) → ℕ → Type 0
+
+-- By what an output holds, and by what a system and its readers may say.
+module _ {S F R W : Type 0} (contents : W → Option (List ℕ))
+    (file_remaining : F → Option (List ℕ)) (remaining : R → Option (List ℕ))
+    (read_step : R → ReadResult → R → Type 0) (facts_of : S → FolderFacts)
+    (finds : S → List ℕ → Result Bool Error → Type 0)
+    (opens : S → List ℕ → Result F Error → Type 0)
+    (identifies : S → F → Option FileId → Type 0) where
+  -- Something holds of each run with such a matcher that has searched one input, and whose options
+  -- use no option but some that changes what is written of it.
+  abbrev pub EachRunWith : {M : Type 0} → (M → MatcherFacts AllocError)
+      → (M → List ℕ → ℕ → Option (ℕ × ℕ)) → (M → List ℕ → ℕ → List (Option (ℕ × ℕ))) → Regex
+      → List OptionId → Claim → Type 0
+  EachRunWith facts first_at groups_at regex allowed Says = (system : S) (before : List ℕ)
+      (options : Options) (input : R) (status : ℕ) (input' : R) (writer' : W) (one : Input)
+      (text : List ℕ)
+      (run : HasWritten contents before file_remaining remaining read_step (facts_of system)
+      (finds system) (opens system) (identifies system) facts first_at groups_at options regex
+      input status input' writer')
+      → UseOnly allowed options → run.inputs ≡ one ∷ [] → IsTextOfInput options one text
+      → Says options regex one.path text (λ written. contents writer' ≡ Some (before ++ written))
+      status
+
+  -- it does with either of the matchers that a run may have
+  abbrev pub EachRun : List OptionId → Claim → Type 0
+  EachRun allowed Says = (regex : Regex)
+      → EachRunWith literal_facts literal_first_at literal_groups_at regex allowed Says
+      × EachRunWith (named_facts {naming = naming_of regex}) named_first_at named_groups_at regex
+      allowed Says
+
+  -- `linegrep P FILE`: the lines that match
+  abbrev pub MatchingLinesAreWritten : Type 0
+  MatchingLinesAreWritten = EachRun [] (λ options regex path text IsWritten status. path ≡ None
+      → IsWritten (flat_map ended (matching regex text)))
+
+  -- `linegrep -v P FILE`: the other lines
+  abbrev pub OtherLinesAreWritten : Type 0
+  OtherLinesAreWritten = EachRun (InvertMatch ∷ []) (λ options regex path text IsWritten status.
+      path ≡ None → has options InvertMatch ≡ true
+      → IsWritten (flat_map ended (filter (λ line. not (is_matched_by regex line)) (lines 10 text))))
+
+  -- `linegrep -n P FILE`: the lines that match, each after its number
+  abbrev pub NumberedLinesAreWritten : Type 0
+  NumberedLinesAreWritten = EachRun (LineNumber ∷ []) (λ options regex path text IsWritten status.
+      path ≡ None → has options LineNumber ≡ true
+      → IsWritten (flat_map numbered (filter (λ one. is_matched_by regex one.1)
+      (enumerate_from 0 (lines 10 text)))))
+
+  -- `linegrep -m N P FILE`: the first N of the lines that match
+  abbrev pub FirstLinesAreWritten : Type 0
+  FirstLinesAreWritten = EachRun (MaxCount ∷ []) (λ options regex path text IsWritten status.
+      path ≡ None → (most : ℕ) → options.max_count ≡ Some most
+      → IsWritten (flat_map ended (take most (matching regex text))))
