@@ -24,7 +24,7 @@ use Rattle.linegrep_cli.proofs.PlainTextLemmas.{plain-text}
 
 -- ---- lists
 
-flat_map-agree : {X : Type 0} (f g : X → List ℕ) (xs : List X) → All (λ x. f x ≡ g x) xs
+pub flat_map-agree : {X : Type 0} (f g : X → List ℕ) (xs : List X) → All (λ x. f x ≡ g x) xs
     → flat_map f xs ≡ flat_map g xs
 flat_map-agree f g [] same = refl
 flat_map-agree f g (x ∷ xs) same = ap₂ (λ (a b : List ℕ). a ++ b)

@@ -27,3 +27,7 @@ pub mod UnusedOptionLemmas
 pub mod PlainSettingLemmas
 pub mod OneInputLemmas
 pub mod PrinterChoiceLemmas
+pub mod LineSearchLemmas
+pub mod PlainRunLemmas
+pub mod CorollaryLemmas
+pub mod LineLawLemmas

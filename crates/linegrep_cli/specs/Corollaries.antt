@@ -1,8 +1,8 @@
 -- What the theorem of a run comes to if one input is searched, in the words of a user: which lines
 -- of it are written, their number, or its path, and the status.
 use Rattle.std.specs.Prelude.{◌≡◌, ◌≢◌, ◌⊎◌, ℕ, ◌+◌, ◌==◌, Bool, true, false, not, ◌&&◌}
-use Rattle.std.specs.Prelude.{if◌then◌else◌, All, List, [], ◌∷◌, ◌++◌, count_by, decimal, filter, take}
-use Rattle.std.specs.Prelude.{Option, None, Some, is_some, Result, Ok}
+use Rattle.std.specs.Prelude.{if◌then◌else◌, All, List, [], ◌∷◌, ◌++◌, count_by, decimal}
+use Rattle.std.specs.Prelude.{filter, take, Option, None, Some, is_some, Result}
 use Rattle.std.specs.Borrow.{Bor}
 use Rattle.std.specs.List.{enumerate_from, flat_map, list_any}
 use Rattle.std.specs.declared.alloc.AllocError.{AllocError}
@@ -35,8 +35,9 @@ use Rattle.linegrep_files.specs.declared.file_id.FileId.{FileId}
 use Rattle.linegrep_options.specs.OptionUses.{is_same}
 use Rattle.linegrep_options.specs.declared.option_id.OptionId.{OptionId}
 use Rattle.linegrep_options.specs.declared.option_id.OptionId.TheVariants.{AfterContext}
-use Rattle.linegrep_options.specs.declared.option_id.OptionId.TheVariants.{BeforeContext, ByteOffset}
-use Rattle.linegrep_options.specs.declared.option_id.OptionId.TheVariants.{Color, Column, Context}
+use Rattle.linegrep_options.specs.declared.option_id.OptionId.TheVariants.{BeforeContext}
+use Rattle.linegrep_options.specs.declared.option_id.OptionId.TheVariants.{ByteOffset, Color}
+use Rattle.linegrep_options.specs.declared.option_id.OptionId.TheVariants.{Column, Context}
 use Rattle.linegrep_options.specs.declared.option_id.OptionId.TheVariants.{ContextSeparator, Count}
 use Rattle.linegrep_options.specs.declared.option_id.OptionId.TheVariants.{CountMatches, Crlf}
 use Rattle.linegrep_options.specs.declared.option_id.OptionId.TheVariants.{FieldContextSeparator}
@@ -95,9 +96,12 @@ pub record IsTextOfInput (options : Options) (one : Input) (text : List ℕ) : T
 abbrev pub is_matched_by : Regex → List ℕ → Bool
 is_matched_by regex line = is_some ((regex_meaning regex).first (strip (Byte 10) line))
 
--- the lines of a text that match, and whether one does
+-- the lines of a text that match, those that don't, and whether one does
 abbrev pub matching : Regex → List ℕ → List (List ℕ)
 matching regex text = filter (is_matched_by regex) (lines 10 text)
+
+abbrev pub others : Regex → List ℕ → List (List ℕ)
+others regex text = filter (λ line. not (is_matched_by regex line)) (lines 10 text)
 
 abbrev pub has_matching : Regex → List ℕ → Bool
 has_matching regex text = list_any (is_matched_by regex) (lines 10 text)
@@ -118,6 +122,34 @@ counted_line count = if count == 0 then [] else decimal (capped count) ++ 10 ∷
 -- written of its input, the text that it searches, whether it has written a text, and its status
 abbrev pub Claim : Type 1
 Claim = Options → Regex → Option PrinterPath → List ℕ → (List ℕ → Type 0) → ℕ → Type 0
+
+-- `linegrep P FILE`: the lines that match are written
+abbrev pub WritesMatching : Claim
+WritesMatching options regex path text IsWritten status =
+    path ≡ None → IsWritten (flat_map ended (matching regex text))
+
+-- `linegrep -v P FILE`: the other lines are
+abbrev pub WritesOthers : Claim
+WritesOthers options regex path text IsWritten status =
+    path ≡ None → has options InvertMatch ≡ true → IsWritten (flat_map ended (others regex text))
+
+-- `linegrep -n P FILE`: the lines that match are, each after its number
+abbrev pub WritesNumbered : Claim
+WritesNumbered options regex path text IsWritten status =
+    path ≡ None → has options LineNumber ≡ true
+    → IsWritten (flat_map numbered
+    (filter (λ one. is_matched_by regex one.1) (enumerate_from 0 (lines 10 text))))
+
+-- `linegrep -m N P FILE`: the first N lines that match are
+abbrev pub WritesFirst : Claim
+WritesFirst options regex path text IsWritten status =
+    path ≡ None → (most : ℕ) → options.max_count ≡ Some most
+    → IsWritten (flat_map ended (take most (matching regex text)))
+
+-- whichever of these it is, but for `-v` and `-m`: the status says whether a line matches
+abbrev pub TellsMatching : Claim
+TellsMatching options regex path text IsWritten status =
+    path ≡ None → status ≡ (if has_matching regex text then 0 else 1)
 
 -- By what an output holds, and by what a system and its readers may say.
 module _ {S F R W : Type 0} (contents : W → Option (List ℕ))
@@ -148,26 +180,18 @@ module _ {S F R W : Type 0} (contents : W → Option (List ℕ))
       × EachRunWith (named_facts {naming = naming_of regex}) named_first_at named_groups_at regex
       allowed Says
 
-  -- `linegrep P FILE`: the lines that match
+  -- the laws: what is claimed holds of each run whose options change no more than the claim says
   abbrev pub MatchingLinesAreWritten : Type 0
-  MatchingLinesAreWritten = EachRun [] (λ options regex path text IsWritten status. path ≡ None
-      → IsWritten (flat_map ended (matching regex text)))
+  MatchingLinesAreWritten = EachRun [] WritesMatching
 
-  -- `linegrep -v P FILE`: the other lines
   abbrev pub OtherLinesAreWritten : Type 0
-  OtherLinesAreWritten = EachRun (InvertMatch ∷ []) (λ options regex path text IsWritten status.
-      path ≡ None → has options InvertMatch ≡ true
-      → IsWritten (flat_map ended (filter (λ line. not (is_matched_by regex line)) (lines 10 text))))
+  OtherLinesAreWritten = EachRun (InvertMatch ∷ []) WritesOthers
 
-  -- `linegrep -n P FILE`: the lines that match, each after its number
   abbrev pub NumberedLinesAreWritten : Type 0
-  NumberedLinesAreWritten = EachRun (LineNumber ∷ []) (λ options regex path text IsWritten status.
-      path ≡ None → has options LineNumber ≡ true
-      → IsWritten (flat_map numbered (filter (λ one. is_matched_by regex one.1)
-      (enumerate_from 0 (lines 10 text)))))
+  NumberedLinesAreWritten = EachRun (LineNumber ∷ []) WritesNumbered
 
-  -- `linegrep -m N P FILE`: the first N of the lines that match
   abbrev pub FirstLinesAreWritten : Type 0
-  FirstLinesAreWritten = EachRun (MaxCount ∷ []) (λ options regex path text IsWritten status.
-      path ≡ None → (most : ℕ) → options.max_count ≡ Some most
-      → IsWritten (flat_map ended (take most (matching regex text))))
+  FirstLinesAreWritten = EachRun (MaxCount ∷ []) WritesFirst
+
+  abbrev pub StatusesTellMatching : Type 0
+  StatusesTellMatching = EachRun (LineNumber ∷ []) TellsMatching

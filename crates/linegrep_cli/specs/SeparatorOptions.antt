@@ -31,8 +31,8 @@ IsContext options (Some text) = (has options NoContextSeparator ≡ false)
 -- the separators are those that options ask for, if they ask for any
 abbrev pub IsSeparators : Options → Option Separators → Type 0
 IsSeparators options None = asks_for_separators options ≡ false
-IsSeparators options (Some separators) =
-    (separators.field_match.items ≡ separator_text options.field_match_separator (codes ":"))
+IsSeparators options (Some separators) = (asks_for_separators options ≡ true)
+    × (separators.field_match.items ≡ separator_text options.field_match_separator (codes ":"))
     × (separators.field_context.items
     ≡ separator_text options.field_context_separator (codes "-"))
     × IsContext options separators.context

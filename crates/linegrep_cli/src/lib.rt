@@ -19,6 +19,7 @@ mod haystacks;
 mod hyperlinks;
 mod json_run;
 mod late;
+pub mod laws;
 mod lists;
 mod looks;
 mod named_patterns;

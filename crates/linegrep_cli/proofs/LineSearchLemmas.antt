@@ -1,0 +1,104 @@
+-- What a search of bytes without a NUL prints that reports matches alone: with a printer of lines,
+-- the texts of the lines that hit.
+use Rattle.std.proofs.Common.{◌≡◌, ◌∙◌, ℕ, zero, suc, ◌+◌, Bool, true, false, List, [], ◌∷◌, ◌++◌}
+use Rattle.std.proofs.Common.{Option, None, Some, ap, ap₂, arith, length, refl, subst, sym}
+use Rattle.std.proofs.lemmas.List.{append-nil}
+use Rattle.std.specs.List.{flat_map}
+use Rattle.std.specs.Prelude.{◌&&◌, not, nat_lt}
+use Rattle.grep_matcher.specs.Lines.{byte_of}
+use Rattle.grep_printer.specs.CountedTexts.{counted_rules}
+use Rattle.grep_printer.specs.Formats.{AreAlong, Printed, PrintedCall, Rules, Scene, printed_by}
+use Rattle.grep_printer.specs.StandardTexts.{call_text, progress_after, standard_rules}
+use Rattle.grep_printer.specs.declared.counted.CountedFormat.{CountedFormat}
+use Rattle.grep_printer.specs.declared.hyperlinks.PrinterPath.{PrinterPath}
+use Rattle.grep_printer.specs.declared.standard.StandardFormat.{StandardFormat}
+use Rattle.grep_searcher.specs.HitLines.{hit_matches}
+use Rattle.grep_searcher.specs.Meanings.{MatcherFacts}
+use Rattle.grep_searcher.specs.Plans.{Call, Plan, Settings, finishes, is_across, search_plan}
+use Rattle.grep_searcher.specs.Searches.{BinaryPoint, look_of, plan_with, viewed_plan}
+use Rattle.linegrep_cli.proofs.MatchPlanLemmas.{match-plan}
+use Rattle.linegrep_cli.proofs.MatchWalkLemmas.{AreSteps, IsMade, match-walk}
+use Rattle.linegrep_cli.proofs.PlainSettingLemmas.{ArePlainSettings}
+use Rattle.linegrep_cli.proofs.PlainTextLemmas.{IsPlainFormat, WritesLines, end-none, plain-text}
+use Rattle.linegrep_cli.proofs.PlainTextLemmas.{standard-steps}
+use Rattle.linegrep_cli.proofs.TextSearchLemmas.{HasNoNul, no-point, same-plan}
+use Rattle.linegrep_cli.specs.SearchTexts.{Findings, HasAsked, IsCountedText, IsTextOf}
+
+abbrev made-of : {F : Type 0} → F → List ℕ → Printed F
+made-of format text = record { format = format; text = text }
+
+module _ {M E : Type 0} (facts : M → MatcherFacts E) (first_at : M → List ℕ → ℕ → Option (ℕ × ℕ))
+    (k : Settings) (matcher : M) (path : Option PrinterPath) (text : List ℕ)
+    (plain : ArePlainSettings k) (none : HasNoNul text) where
+  abbrev scene : Scene
+  scene = record { path = path; settings = k }
+
+  abbrev found : List Call
+  found = hit_matches k (facts matcher).meaning text
+
+  abbrev plan : Plan
+  plan = search_plan k (facts matcher).meaning text
+
+  pub by-line : is_across k (facts matcher).meaning ≡ false
+  by-line = rw plain.single refl
+
+  -- what is made of the matches, by any rules under which a search goes on after each
+  pub search-made : {F : Type 0} (rules : Rules F) (Good : ℕ → F → Type 0) (text-of : Call → List ℕ)
+      (begun last : F) (written : List ℕ)
+      → AreSteps rules scene (HasAsked rules facts first_at k matcher path) Good text-of
+      → Good 0 begun → IsTextOf rules facts first_at k matcher path begun text last written
+      → IsMade rules scene (HasAsked rules facts first_at k matcher path) Good text-of
+      (record { format = begun; text = [] }) 0 found plan.finish
+      (record { format = last; text = written })
+  search-made {F} rules Good text-of begun last written steps good of =
+      let look = look_of k (facts matcher).meaning false in
+      let unpointed : of.point ≡ None =
+      no-point k (facts matcher).meaning text plain.looks none by-line of.count
+      (viewed_plan k (facts matcher).meaning look text).calls of.point of.is_point in
+      let same : plan_with k.binary_detection of.point (viewed_plan k (facts matcher).meaning look text)
+      ≡ plan =
+      ap (λ (p : Option BinaryPoint). plan_with k.binary_detection p
+      (viewed_plan k (facts matcher).meaning look text)) unpointed
+      ∙ same-plan k (facts matcher).meaning text plain.looks none look in
+      subst (IsMade rules scene (HasAsked rules facts first_at k matcher path) Good text-of
+      (record { format = begun; text = [] }) 0 found plan.finish)
+      (sym (ap₂ made-of of.last_is of.text_is))
+      (match-walk rules scene (HasAsked rules facts first_at k matcher path) Good text-of steps plan
+      found begun of.printed (match-plan k (facts matcher).meaning text plain.reports by-line) good
+      (subst (λ (p : Plan). AreAlong rules scene (HasAsked rules facts first_at k matcher path) begun
+      p.calls p.finish of.printed) same of.along))
+
+  -- no binary byte is at the end of the plan
+  pub no-end : plan.finish.binary ≡ None
+  no-end = (match-plan k (facts matcher).meaning text plain.reports by-line).binary
+
+  -- a printer of lines writes the texts of the matches, and has found something if there is one
+  pub lines-searched : (format : CountedFormat StandardFormat) (findings : Findings)
+      → WritesLines format.format.config scene
+      → IsCountedText facts first_at k matcher path text standard_rules format false findings
+      → (findings.text ≡ flat_map (plain-text (byte_of k.line_terminator)) found)
+      × (findings.found ≡ nat_lt 0 (length found))
+  lines-searched format findings writes counted =
+      let rules = counted_rules standard_rules in
+      let texts = flat_map (plain-text (byte_of k.line_terminator)) found in
+      let made = search-made rules (IsPlainFormat scene) (plain-text (byte_of k.line_terminator))
+      (rules.begun format false) counted.last findings.text
+      (standard-steps scene (HasAsked rules facts first_at k matcher path))
+      (record {
+        writes = writes;
+        progress = record { first = refl; no_binary = refl; found = refl };
+      }) counted.of in
+      let config = made.before.format.config in
+      let progress = made.before.format.progress in
+      let at-end : call_text config progress scene made.last.call made.last.parts ≡ [] =
+      ap (λ (call : Call). call_text config progress scene call made.last.parts) made.last_is
+      ∙ (ap (λ (b : Option ℕ). call_text config progress scene (finishes plan.finish.count b)
+      made.last.parts) no-end
+      ∙ end-none config progress scene plan.finish.count made.last.parts) in
+      let sum : 0 + length found ≡ length found = omega arith in (
+        made.text_is ∙ (ap (λ (t : List ℕ). texts ++ t) at-end ∙ append-nil texts),
+        counted.found_is
+            ∙ (ap (λ (f : CountedFormat StandardFormat). f.format.progress.has_match) made.format_is
+            ∙ (ap (λ (call : Call). (progress_after progress call).has_match) made.last_is
+            ∙ (made.good.progress.found ∙ ap (λ n. nat_lt 0 n) sum))),
+      )
