@@ -71,13 +71,6 @@ module _ (allowed : List OptionId) (options : Options) (only : UseOnly allowed o
   pub asked : searcher_settings options ≡ built (asked_settings options)
   asked = rw (none Files keep.files) refl
 
-  pub no-after : after_lines options ≡ 0
-  no-after = rw (none Passthru keep.passthru, none AfterContext keep.after, none Context keep.context) refl
-
-  pub no-before : before_lines options ≡ 0
-  no-before =
-      rw (none Passthru keep.passthru, none BeforeContext keep.before, none Context keep.context) refl
-
   asked-after : (if has options Passthru then 0 else after_lines options) ≡ 0
   asked-after = rw (none Passthru keep.passthru, none AfterContext keep.after, none Context keep.context) refl
 

@@ -114,10 +114,6 @@ ended line = line ++ missing_end 10 line
 abbrev pub numbered : ℕ × List ℕ → List ℕ
 numbered one = decimal (one.0 + 1) ++ 58 ∷ ended one.1
 
--- a number in a line of its own, unless it is 0
-abbrev pub counted_line : ℕ → List ℕ
-counted_line count = if count == 0 then [] else decimal (capped count) ++ 10 ∷ []
-
 -- What is said of a run: by its options, the expression that it searches for, the path that is
 -- written of its input, the text that it searches, whether it has written a text, and its status
 abbrev pub Claim : Type 1
