@@ -2,18 +2,24 @@
 -- its lines are written and whether these have numbers.
 use Rattle.std.proofs.Common.{◌≡◌, ◌≢◌, ◌∙◌, ℕ, ◌+◌, Bool, true, false, List, [], ◌∷◌, ◌++◌, Option}
 use Rattle.std.proofs.Common.{None, Some, ap, ap₂, append_assoc, if◌then◌else◌, length, refl, subst}
-use Rattle.std.proofs.Common.{sym, take}
-use Rattle.std.proofs.lemmas.Bool.{MatchBool-at_false}
+use Rattle.std.proofs.Common.{arith, suc, sym, take, zero}
+use Rattle.std.proofs.Math.Bool.{or-false}
+use Rattle.std.proofs.lemmas.Bool.{MatchBool-at_false, lt-ltb}
 use Rattle.std.proofs.lemmas.List.{append-nil}
 use Rattle.std.proofs.lemmas.List.Elements.{filter_agree}
 use Rattle.std.specs.List.{enumerate_from, flat_map}
-use Rattle.std.specs.Prelude.{MatchBool, Result, decimal, filter, is_some, nat_lt, not, slice_index_or}
+use Rattle.std.specs.Prelude.{◌||◌, MatchBool, Result, decimal, filter, is_some, nat_lt, not, slice_index_or}
 use Rattle.std.specs.declared.alloc.AllocError.{AllocError}
 use Rattle.std.specs.declared.io.Error.{Error}
 use Rattle.grep_matcher.specs.Lines.{byte_of}
 use Rattle.grep_printer.specs.CountedTexts.{stats_text}
 use Rattle.grep_printer.specs.LineTexts.{plain_line}
 use Rattle.grep_printer.specs.StandardTexts.{standard_rules}
+use Rattle.grep_printer.specs.StatsSums.{capped}
+use Rattle.grep_printer.specs.SummaryTexts.{finish_text}
+use Rattle.grep_printer.specs.declared.hyperlinks.PrinterPath.{PrinterPath}
+use Rattle.grep_printer.specs.declared.summary_builder.SummaryConfig.{SummaryConfig}
+use Rattle.grep_printer.specs.declared.summary_builder.SummaryKind.TheVariants.{Count as CountKind}
 use Rattle.grep_printer.specs.declared.standard.StandardFormat.{StandardFormat}
 use Rattle.grep_regex.specs.Views.{regex_meaning}
 use Rattle.grep_regex.specs.declared.regex.Regex.{Regex}
@@ -31,16 +37,19 @@ use Rattle.linegrep_cli.proofs.HitTextLemmas.{flat_map-agree, hit-texts, hits-pl
 use Rattle.linegrep_cli.proofs.HitTextLemmas.{length-hits, unnumbered-texts}
 use Rattle.linegrep_cli.proofs.LineSearchLemmas.{lines-searched}
 use Rattle.linegrep_cli.proofs.OneInputLemmas.{IsOneText, one-text}
+use Rattle.linegrep_cli.proofs.PlainRunLemmas.{KeepCount, count-kind, without-zero}
 use Rattle.linegrep_cli.proofs.PlainRunLemmas.{KeepLook, KeepText, no-color, no-separators, no-summary}
 use Rattle.linegrep_cli.proofs.PlainRunLemmas.{no-template, not-counted, not-json, not-vimgrep}
 use Rattle.linegrep_cli.proofs.PlainRunLemmas.{plain-lines}
 use Rattle.linegrep_cli.proofs.PlainSettingLemmas.{ArePlainSettings, IsRefused, KeepLines, asked}
 use Rattle.linegrep_cli.proofs.PlainSettingLemmas.{plain-settings}
 use Rattle.linegrep_cli.proofs.PlainTextLemmas.{plain-text}
-use Rattle.linegrep_cli.proofs.PrinterChoiceLemmas.{lines-printer}
-use Rattle.linegrep_cli.proofs.PrinterKindLemmas.{lines-run}
-use Rattle.linegrep_cli.specs.Corollaries.{IsTextOfInput, UseOnly, ended, is_matched_by, numbered}
-use Rattle.linegrep_cli.specs.PrinterOptions.{color_choice}
+use Rattle.linegrep_cli.proofs.PrinterChoiceLemmas.{lines-printer, summary-printer}
+use Rattle.linegrep_cli.proofs.PrinterKindLemmas.{lines-run, summary-run}
+use Rattle.linegrep_cli.proofs.SummaryTextLemmas.{matches-counted}
+use Rattle.linegrep_cli.specs.Corollaries.{IsTextOfInput, UseOnly, counted_line, ended, is_matched_by, numbered}
+use Rattle.linegrep_cli.specs.PrinterOptions.{color_choice, summary_settings}
+use Rattle.linegrep_cli.specs.OptionUses.{has}
 use Rattle.linegrep_cli.specs.SearchTexts.{AreCounts, AreTotals, Findings, Input, IsCountedText}
 use Rattle.linegrep_cli.specs.SearchTexts.{IsTextBy, settings_for}
 use Rattle.linegrep_cli.specs.SearcherOptions.{searcher_settings}
@@ -49,10 +58,11 @@ use Rattle.linegrep_cli.specs.WrittenRuns.{HasWritten}
 use Rattle.linegrep_cli.specs.declared.counted_run.CountedRun.{CountedRun}
 use Rattle.linegrep_cli.specs.declared.options.Options.{Options}
 use Rattle.linegrep_cli.specs.declared.printers.Printer.{Printer}
-use Rattle.linegrep_cli.specs.declared.printers.Printer.TheVariants.{Lines}
+use Rattle.linegrep_cli.specs.declared.printers.Printer.TheVariants.{Lines, Summary}
 use Rattle.linegrep_files.specs.FolderFacts.{FolderFacts}
 use Rattle.linegrep_files.specs.declared.file_id.FileId.{FileId}
 use Rattle.linegrep_options.specs.declared.option_id.OptionId.{OptionId}
+use Rattle.linegrep_options.specs.declared.option_id.OptionId.TheVariants.{Count, IncludeZero}
 
 -- the texts of two settings are one, which differ only in what is done about a NUL
 searched-same : (settings : Settings) (quits : Bool) (content : List ℕ)
@@ -100,6 +110,22 @@ numbered-text k one feeds numbers =
     ap₂ (λ (t : LineTerminator) (b : Bool). plain_line (byte_of t) 58
     (if b then Some (one.0 + 1) else None) one.1) feeds numbers
     ∙ append_assoc (decimal (one.0 + 1)) (58 ∷ []) (ended one.1)
+
+-- the text of a count, if counts of 0 are left out
+count-text : (leaves_out : Bool) (count : ℕ) → leaves_out ≡ true
+    → (if nat_lt 0 count || not leaves_out then decimal count ++ 10 ∷ [] else []) ≡ counted_line count
+count-text leaves_out count is =
+    ap (λ b. if nat_lt 0 count || not b then decimal count ++ 10 ∷ [] else []) is
+    ∙ ap (λ b. if b then decimal count ++ 10 ∷ [] else []) (or-false (nat_lt 0 count))
+
+-- a capped count is 0 only if the count is
+some-capped : (count : ℕ) → nat_lt 0 (capped count) ≡ nat_lt 0 count
+some-capped zero = refl
+some-capped (suc count) = lt-ltb 0 (capped (suc count)) (omega arith)
+    ∙ sym (lt-ltb 0 (suc count) (omega arith))
+
+by-line-of : (k : Settings) (meaning : Meaning) → ArePlainSettings k → is_across k meaning ≡ false
+by-line-of k meaning plain = rw plain.single refl
 
 module _ {F R W M : Type 0} (contents : W → Option (List ℕ)) (before : List ℕ)
     (file_remaining : F → Option (List ℕ)) (remaining : R → Option (List ℕ))
@@ -220,3 +246,38 @@ module _ {F R W M : Type 0} (contents : W → Option (List ℕ)) (before : List 
         (λ one. same one.1) (enumerate_from 0 (lines (byte_of k.line_terminator) text))
         ∙ ap (λ (t : LineTerminator). filter (λ (one : ℕ × List ℕ). hit one.1)
         (enumerate_from 0 (lines (byte_of t) text))) plain.by_feeds)))
+
+  -- with a printer of counts
+  module _ (keeps : KeepText allowed) (counting : KeepCount allowed) (counts : has options Count ≡ true)
+      (nameless : one.path ≡ None) where
+    -- how many lines hit is written, if one does, and the status says whether one does
+    pub count-written :
+        (contents writer' ≡ Some (before ++ counted_line (capped (length (hit_lines k meaning text)))))
+        × (status ≡ (if nat_lt 0 (length (hit_lines k meaning text)) then 0 else 1))
+    count-written =
+        let across = is_across (searcher_settings options) meaning in
+        let colors = colors_for run.colors (color_choice options) options.streams in
+        let total = length (hit_lines k meaning text) in
+        let kind = summary-printer options across run.separators run.matcher run.template colors
+        run.printer CountKind
+        (count-kind allowed options only keeps counting keep.files counts across
+        (by-line-of k meaning plain)) run.is_printer in
+        let chosen = summary-run run.printer kind in
+        let result = matches-counted facts first_at k run.matcher one.path text plain of.no_nul
+        chosen.0.printer.format alone.next (ap (λ (c : SummaryConfig). c.kind) chosen.2.0)
+        (by-printer (Summary chosen.0) chosen.1) in
+        let totals = no-totals chosen.0
+        (chosen.2.1.counts ∙ not-counted allowed options only keeps)
+        (subst (λ p. AreTotals p run.findings.stats run.totals) chosen.1 run.are_totals) in
+        let size = length-hits k meaning text in (
+          all-written (counted_line (capped total))
+              (result.text_is
+              ∙ (ap₂ (λ (c : SummaryConfig) (p : Option PrinterPath).
+              finish_text CountKind c p (byte_of k.line_terminator) result.counts) chosen.2.0 nameless
+              ∙ (ap (λ (t : LineTerminator). finish_text CountKind
+              (summary_settings options CountKind colors) None (byte_of t) result.counts) plain.by_feeds
+              ∙ (count-text (not (has options IncludeZero)) result.counts.match_count
+              (ap not (without-zero allowed options only keeps counting))
+              ∙ ap (λ n. counted_line n) (result.count_is ∙ ap capped size))))) totals,
+          status-known (nat_lt 0 total) (result.found_is ∙ (ap (λ n. nat_lt 0 (capped n)) size ∙ some-capped total)),
+        )

@@ -31,3 +31,4 @@ pub mod LineSearchLemmas
 pub mod PlainRunLemmas
 pub mod CorollaryLemmas
 pub mod LineLawLemmas
+pub mod SummaryTextLemmas

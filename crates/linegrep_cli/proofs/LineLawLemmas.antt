@@ -5,6 +5,7 @@ use Rattle.std.specs.List.{enumerate_from, flat_map, list_any}
 use Rattle.std.specs.Prelude.{◌&&◌, ◌||◌, Result, filter, nat_lt, not}
 use Rattle.std.specs.declared.alloc.AllocError.{AllocError}
 use Rattle.std.specs.declared.io.Error.{Error}
+use Rattle.grep_printer.specs.StatsSums.{capped}
 use Rattle.grep_regex.specs.declared.regex.Regex.{Regex}
 use Rattle.grep_searcher.specs.BuiltSettings.{built}
 use Rattle.grep_searcher.specs.HitLines.{hit_lines, items_up_to}
@@ -12,14 +13,14 @@ use Rattle.grep_searcher.specs.Lines.{lines}
 use Rattle.grep_searcher.specs.Meanings.{MatcherFacts}
 use Rattle.grep_searcher.specs.Plans.{Settings}
 use Rattle.grep_searcher.specs.Source.{ReadResult}
-use Rattle.linegrep_cli.proofs.CorollaryLemmas.{hit-matches, hit-misses, hits-known, lines-numbered}
+use Rattle.linegrep_cli.proofs.CorollaryLemmas.{count-written, hit-matches, hit-misses, hits-known, lines-numbered}
 use Rattle.linegrep_cli.proofs.CorollaryLemmas.{lines-unnumbered, lines-written}
 use Rattle.linegrep_cli.proofs.HitTextLemmas.{some-pass}
-use Rattle.linegrep_cli.proofs.PlainRunLemmas.{KeepLook, KeepText, no-terminal}
+use Rattle.linegrep_cli.proofs.PlainRunLemmas.{KeepCount, KeepLook, KeepText, no-terminal}
 use Rattle.linegrep_cli.proofs.PlainSettingLemmas.{IsRefused, KeepLines, asked, plain-settings}
 use Rattle.linegrep_cli.proofs.UnusedOptionLemmas.{has-none, number-none, others}
 use Rattle.linegrep_cli.specs.Corollaries.{Claim, EachRunWith, TellsMatching, UseOnly, WritesFirst}
-use Rattle.linegrep_cli.specs.Corollaries.{WritesMatching, WritesNumbered, WritesOthers}
+use Rattle.linegrep_cli.specs.Corollaries.{WritesCount, WritesMatching, WritesNumbered, WritesOthers, counted_line}
 use Rattle.linegrep_cli.specs.Corollaries.{is_matched_by, ended}
 use Rattle.linegrep_cli.specs.OptionMeanings.{shows_numbers}
 use Rattle.linegrep_cli.specs.OptionUses.{has}
@@ -29,7 +30,7 @@ use Rattle.linegrep_cli.specs.declared.options.Options.{Options}
 use Rattle.linegrep_files.specs.FolderFacts.{FolderFacts}
 use Rattle.linegrep_files.specs.declared.file_id.FileId.{FileId}
 use Rattle.linegrep_options.specs.declared.option_id.OptionId.{OptionId}
-use Rattle.linegrep_options.specs.declared.option_id.OptionId.TheVariants.{Column, InvertMatch}
+use Rattle.linegrep_options.specs.declared.option_id.OptionId.TheVariants.{Column, Count, InvertMatch}
 use Rattle.linegrep_options.specs.declared.option_id.OptionId.TheVariants.{Json, LineNumber}
 use Rattle.linegrep_options.specs.declared.option_id.OptionId.TheVariants.{MaxCount, NoLineNumber}
 use Rattle.linegrep_options.specs.declared.option_id.OptionId.TheVariants.{Pretty, Vimgrep}
@@ -249,6 +250,42 @@ first-look = record {
   without_match = refl;
 }
 
+count-lines : KeepLines (Count ∷ [])
+count-lines = record {
+  files = refl;
+  multiline = refl;
+  crlf = refl;
+  null_data = refl;
+  passthru = refl;
+  after = refl;
+  before = refl;
+  context = refl;
+  stop = refl;
+}
+
+count-text : KeepText (Count ∷ [])
+count-text = record {
+  json = refl;
+  vimgrep = refl;
+  only_matching = refl;
+  replace = refl;
+  heading = refl;
+  pretty = refl;
+  color = refl;
+  column = refl;
+  offset = refl;
+  max_columns = refl;
+  trim = refl;
+  stats = refl;
+  context_separator = refl;
+  no_context_separator = refl;
+  match_separator = refl;
+  field_separator = refl;
+}
+
+count-look : KeepCount (Count ∷ [])
+count-look = record { quiet = refl; count_matches = refl; zero = refl }
+
 -- ---- the laws, with a matcher of any kind
 
 module _ {S F R W M : Type 0} (contents : W → Option (List ℕ))
@@ -346,3 +383,25 @@ module _ {S F R W M : Type 0} (contents : W → Option (List ℕ))
       (filter (is_matched_by regex) (lines 10 text)))))
       (no-limit allowed options only number-lines number-text one.quits refl)
       ∙ some-pass (is_matched_by regex) (lines 10 text)))
+
+  pub each-counted : Each (Count ∷ []) WritesCount
+  each-counted system before options input status input' writer' one text run only single of nameless
+      counts =
+      let allowed = Count ∷ [] in
+      let k = settings_for (searcher_settings options) one.quits in
+      let meaning = (facts run.matcher).meaning in
+      let plain = plain-settings allowed options only count-lines one.quits in
+      let known = hits-known k meaning text (is_matched_by regex) plain.by_feeds
+      (hit-matches k meaning regex plain.by_feeds run.is_matcher.meaning
+      (no-inversion allowed options only count-lines count-text one.quits refl))
+      ∙ ap (λ (most : Option ℕ). items_up_to most (filter (is_matched_by regex) (lines 10 text)))
+      (no-limit allowed options only count-lines count-text one.quits refl) in
+      let result = count-written contents before file_remaining remaining read_step (facts_of system)
+      (finds system) (opens system) (identifies system) facts first_at groups_at options regex input
+      status input' writer' run allowed only count-lines one single text of count-text count-look
+      counts nameless in (
+        result.0 ∙ ap (λ (found : List (List ℕ)). Some (before ++ counted_line (capped (length found)))) known,
+        result.1 ∙ ap (λ b. if b then 0 else 1)
+            (ap (λ (found : List (List ℕ)). nat_lt 0 (length found)) known
+            ∙ some-pass (is_matched_by regex) (lines 10 text)),
+      )

@@ -18,6 +18,7 @@ use Rattle.grep_printer.specs.declared.colors.ColorTexts.{ColorTexts}
 use Rattle.grep_printer.specs.declared.config.Config.{Config}
 use Rattle.grep_printer.specs.declared.hyperlinks.PrinterPath.{PrinterPath}
 use Rattle.grep_printer.specs.declared.separators.Separators.{Separators}
+use Rattle.grep_printer.specs.declared.summary_builder.SummaryKind.TheVariants.{Count as CountKind}
 use Rattle.grep_regex.specs.Groups.{group_names}
 use Rattle.grep_regex.specs.Views.{regex_options, regex_patterns}
 use Rattle.grep_regex.specs.declared.regex.Regex.{Regex}
@@ -42,7 +43,8 @@ use Rattle.linegrep_options.specs.declared.option_id.OptionId.TheVariants.{Field
 use Rattle.linegrep_options.specs.declared.option_id.OptionId.TheVariants.{FieldMatchSeparator}
 use Rattle.linegrep_options.specs.declared.option_id.OptionId.TheVariants.{Files, FilesWithMatches}
 use Rattle.linegrep_options.specs.declared.option_id.OptionId.TheVariants.{FilesWithoutMatch}
-use Rattle.linegrep_options.specs.declared.option_id.OptionId.TheVariants.{Heading, InvertMatch}
+use Rattle.linegrep_options.specs.declared.option_id.OptionId.TheVariants.{Heading, IncludeZero}
+use Rattle.linegrep_options.specs.declared.option_id.OptionId.TheVariants.{InvertMatch}
 use Rattle.linegrep_options.specs.declared.option_id.OptionId.TheVariants.{Json, MaxColumns}
 use Rattle.linegrep_options.specs.declared.option_id.OptionId.TheVariants.{NoContextSeparator, NoHeading}
 use Rattle.linegrep_options.specs.declared.option_id.OptionId.TheVariants.{OnlyMatching, Pretty}
@@ -56,6 +58,12 @@ pub record KeepLook (allowed : List OptionId) : Type 0 where
   pub count_matches : IsRefused allowed CountMatches
   pub with_matches : IsRefused allowed FilesWithMatches
   pub without_match : IsRefused allowed FilesWithoutMatch
+
+-- none is allowed that asks for something else than a count of lines
+pub record KeepCount (allowed : List OptionId) : Type 0 where
+  pub quiet : IsRefused allowed Quiet
+  pub count_matches : IsRefused allowed CountMatches
+  pub zero : IsRefused allowed IncludeZero
 
 -- nor one that changes how each line looks
 pub record KeepText (allowed : List OptionId) : Type 0 where
@@ -169,3 +177,20 @@ module _ (allowed : List OptionId) (options : Options) (only : UseOnly allowed o
     none FilesWithMatches look.with_matches,
     none FilesWithoutMatch look.without_match,
   ) refl
+
+  -- how many lines match is written, in a search by line
+  pub count-kind : KeepCount allowed → IsRefused allowed Files → has options Count ≡ true
+      → (across : Bool) → across ≡ false → summary_kind options across ≡ Some CountKind
+  count-kind look files counts across by-line = rw (
+    none Quiet look.quiet,
+    none Files files,
+    none CountMatches look.count_matches,
+    counts,
+    none OnlyMatching text.only_matching,
+    by-line,
+    and-false (not (has options InvertMatch)),
+  ) refl
+
+  -- a count of 0 isn't written
+  pub without-zero : KeepCount allowed → has options IncludeZero ≡ false
+  without-zero look = none IncludeZero look.zero

@@ -1,11 +1,13 @@
 -- The printer of a run, by options that change nothing of it.
 use Rattle.std.proofs.Common.{◌≡◌, ◌∙◌, ℕ, Bool, true, false, List, [], ◌∷◌, Option, None, Some, ap}
 use Rattle.std.proofs.Common.{if◌then◌else◌, refl, subst, sym}
+use Rattle.std.proofs.lemmas.Option.{same_Some}
 use Rattle.std.specs.Borrow.{Bor}
 use Rattle.std.specs.Prelude.{◌&&◌, ◌||◌, not}
 use Rattle.grep_definitions.proofs.BoolLemmas.{clash}
 use Rattle.grep_printer.specs.declared.colors.ColorSpecs.{ColorSpecs}
 use Rattle.grep_printer.specs.declared.separators.Separators.{Separators}
+use Rattle.grep_printer.specs.declared.summary_builder.SummaryKind.{SummaryKind}
 use Rattle.grep_replace.specs.declared.template.Template.{Template}
 use Rattle.linegrep_cli.specs.OptionUses.{has}
 use Rattle.linegrep_cli.specs.PrinterKinds.{IsLines, IsSummary}
@@ -38,3 +40,20 @@ module _ {M : Type 0} (options : Options) (across : Bool) (separators : Option (
       absurd (let never = sym lines ∙ some in cc)
   lines-printer (Json run) lines whole text plain (none, messages, both, replaces, new, stats) =
       absurd (clash messages text)
+
+  -- the printer of a summary
+  pub summary-printer : (printer : Printer M) (kind : SummaryKind)
+      → summary_kind options across ≡ Some kind
+      → IsPrinterFor options across separators matcher template colors printer
+      → IsSummary (λ run. (run.printer.format.format.config ≡ summary_settings options kind colors)
+      × IsNewRun options run) printer
+  summary-printer (Lines run) kind some (absent, unread, whole, others, config, new) = absurd (let never = sym some ∙ absent in cc)
+  summary-printer (Parts run) kind some (absent, unread, whole, others, config, new) = absurd (let never = sym some ∙ absent in cc)
+  summary-printer (ReplacedLines run) kind some (absent, unread, whole, others, config, new) =
+      absurd (let never = sym some ∙ absent in cc)
+  summary-printer (ReplacedParts run) kind some (absent, unread, whole, others, config, new) =
+      absurd (let never = sym some ∙ absent in cc)
+  summary-printer (Summary run) kind some (other, is, config, new) =
+      let same : other ≡ kind = same_Some other kind (sym is ∙ some) in
+      (config ∙ ap (λ one. summary_settings options one colors) same, new)
+  summary-printer (Json run) kind some (absent, unread, whole, others, config, new) = absurd (let never = sym some ∙ absent in cc)

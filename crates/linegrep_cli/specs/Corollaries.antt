@@ -1,7 +1,7 @@
 -- What the theorem of a run comes to if one input is searched, in the words of a user: which lines
 -- of it are written, their number, or its path, and the status.
-use Rattle.std.specs.Prelude.{◌≡◌, ◌≢◌, ◌⊎◌, ℕ, ◌+◌, ◌==◌, Bool, true, false, not, ◌&&◌}
-use Rattle.std.specs.Prelude.{if◌then◌else◌, All, List, [], ◌∷◌, ◌++◌, count_by, decimal}
+use Rattle.std.specs.Prelude.{◌≡◌, ◌≢◌, ℕ, ◌+◌, Bool, true, false, not, ◌&&◌, nat_lt}
+use Rattle.std.specs.Prelude.{if◌then◌else◌, All, List, [], ◌∷◌, ◌++◌, decimal, length}
 use Rattle.std.specs.Prelude.{filter, take, Option, None, Some, is_some, Result}
 use Rattle.std.specs.Borrow.{Bor}
 use Rattle.std.specs.List.{enumerate_from, flat_map, list_any}
@@ -114,6 +114,10 @@ ended line = line ++ missing_end 10 line
 abbrev pub numbered : ℕ × List ℕ → List ℕ
 numbered one = decimal (one.0 + 1) ++ 58 ∷ ended one.1
 
+-- a number in a line of its own, unless it is 0
+abbrev pub counted_line : ℕ → List ℕ
+counted_line count = if nat_lt 0 count then decimal count ++ 10 ∷ [] else []
+
 -- What is said of a run: by its options, the expression that it searches for, the path that is
 -- written of its input, the text that it searches, whether it has written a text, and its status
 abbrev pub Claim : Type 1
@@ -142,7 +146,15 @@ WritesFirst options regex path text IsWritten status =
     path ≡ None → (most : ℕ) → options.max_count ≡ Some most
     → IsWritten (flat_map ended (take most (matching regex text)))
 
--- whichever of these it is, but for `-v` and `-m`: the status says whether a line matches
+-- `linegrep -c P FILE`: how many lines match is written, or nothing if none does. The count goes up
+-- to the greatest number of 64 bits. The status says whether a line matches
+abbrev pub WritesCount : Claim
+WritesCount options regex path text IsWritten status =
+    path ≡ None → has options Count ≡ true
+    → IsWritten (counted_line (capped (length (matching regex text))))
+    × (status ≡ (if has_matching regex text then 0 else 1))
+
+-- without `-v`, `-m` and `-c`, the status says whether a line matches
 abbrev pub TellsMatching : Claim
 TellsMatching options regex path text IsWritten status =
     path ≡ None → status ≡ (if has_matching regex text then 0 else 1)
@@ -191,3 +203,6 @@ module _ {S F R W : Type 0} (contents : W → Option (List ℕ))
 
   abbrev pub StatusesTellMatching : Type 0
   StatusesTellMatching = EachRun (LineNumber ∷ []) TellsMatching
+
+  abbrev pub MatchingLinesAreCounted : Type 0
+  MatchingLinesAreCounted = EachRun (Count ∷ []) WritesCount

@@ -4,7 +4,8 @@
 //! The premise of each law is that the run's options use no option that changes what is written of
 //! a file, but for those that the law names. Any others may be used: those that say what the
 //! pattern means, those that choose files, and those about what standard error says.
-ghost use Rattle.linegrep_cli.specs.Corollaries.{FirstLinesAreWritten, MatchingLinesAreWritten};
+ghost use Rattle.linegrep_cli.specs.Corollaries.{FirstLinesAreWritten, MatchingLinesAreCounted};
+ghost use Rattle.linegrep_cli.specs.Corollaries.{MatchingLinesAreWritten};
 ghost use Rattle.linegrep_cli.specs.Corollaries.{NumberedLinesAreWritten, OtherLinesAreWritten};
 ghost use Rattle.linegrep_cli.specs.Corollaries.{StatusesTellMatching};
 
@@ -42,5 +43,12 @@ pub fn first_lines_are_written<S: System, R: Source, W: Output>()
 /// does.
 pub fn statuses_tell_matching<S: System, R: Source, W: Output>()
     ensures { StatusesTellMatching {S = S} W.contents S.File.remaining R.remaining R.step S.facts
+        S.finds S.opens S.identifies }
+{}
+
+/// `linegrep -c P FILE` writes how many lines match, and a line feed. If none does, it writes
+/// nothing. The status is 0 if a line matches, and 1 if none does.
+pub fn matching_lines_are_counted<S: System, R: Source, W: Output>()
+    ensures { MatchingLinesAreCounted {S = S} W.contents S.File.remaining R.remaining R.step S.facts
         S.finds S.opens S.identifies }
 {}
