@@ -1,30 +1,28 @@
 -- What a run has written that has searched one input, by options that change nothing but which of
 -- its lines are written and whether these have numbers.
-use Rattle.std.proofs.Common.{◌≡◌, ◌≢◌, ◌∙◌, ℕ, ◌+◌, Bool, true, false, List, [], ◌∷◌, ◌++◌, Option}
+use Rattle.std.proofs.Common.{◌≡◌, ◌∙◌, ℕ, ◌+◌, Bool, true, false, List, [], ◌∷◌, ◌++◌, Option}
 use Rattle.std.proofs.Common.{None, Some, ap, ap₂, append_assoc, if◌then◌else◌, length, refl, subst}
-use Rattle.std.proofs.Common.{arith, suc, sym, take, zero}
+use Rattle.std.proofs.Common.{arith, suc, sym, zero}
 use Rattle.std.proofs.Math.Bool.{or-false}
 use Rattle.std.proofs.lemmas.Bool.{MatchBool-at_false, lt-ltb}
 use Rattle.std.proofs.lemmas.List.{append-nil}
 use Rattle.std.proofs.lemmas.List.Elements.{filter_agree}
 use Rattle.std.specs.List.{enumerate_from, flat_map}
-use Rattle.std.specs.Prelude.{◌||◌, MatchBool, Result, decimal, filter, is_some, nat_lt, not, slice_index_or}
+use Rattle.std.specs.Prelude.{◌||◌, Result, decimal, filter, is_some, nat_lt, not, slice_index_or}
 use Rattle.std.specs.declared.alloc.AllocError.{AllocError}
 use Rattle.std.specs.declared.io.Error.{Error}
 use Rattle.grep_matcher.specs.Lines.{byte_of}
 use Rattle.grep_printer.specs.CountedTexts.{stats_text}
 use Rattle.grep_printer.specs.LineTexts.{plain_line}
-use Rattle.grep_printer.specs.StandardTexts.{standard_rules}
 use Rattle.grep_printer.specs.StatsSums.{capped}
 use Rattle.grep_printer.specs.SummaryTexts.{finish_text}
 use Rattle.grep_printer.specs.declared.hyperlinks.PrinterPath.{PrinterPath}
 use Rattle.grep_printer.specs.declared.summary_builder.SummaryConfig.{SummaryConfig}
 use Rattle.grep_printer.specs.declared.summary_builder.SummaryKind.TheVariants.{Count as CountKind}
-use Rattle.grep_printer.specs.declared.standard.StandardFormat.{StandardFormat}
 use Rattle.grep_regex.specs.Views.{regex_meaning}
 use Rattle.grep_regex.specs.declared.regex.Regex.{Regex}
 use Rattle.grep_searcher.proofs.HitLineLemmas.{hits_if-plain}
-use Rattle.grep_searcher.specs.HitLines.{hit_lines, hit_matches, is_hit, items_up_to}
+use Rattle.grep_searcher.specs.HitLines.{hit_lines, is_hit, items_up_to}
 use Rattle.grep_searcher.specs.Lines.{lines, strip}
 use Rattle.grep_searcher.specs.Meanings.{MatcherFacts, Meaning}
 use Rattle.grep_searcher.specs.Plans.{Settings, hits_if, is_across}
@@ -41,16 +39,15 @@ use Rattle.linegrep_cli.proofs.PlainRunLemmas.{KeepCount, count-kind, without-ze
 use Rattle.linegrep_cli.proofs.PlainRunLemmas.{KeepLook, KeepText, no-color, no-separators, no-summary}
 use Rattle.linegrep_cli.proofs.PlainRunLemmas.{no-template, not-counted, not-json, not-vimgrep}
 use Rattle.linegrep_cli.proofs.PlainRunLemmas.{plain-lines}
-use Rattle.linegrep_cli.proofs.PlainSettingLemmas.{ArePlainSettings, IsRefused, KeepLines, asked}
+use Rattle.linegrep_cli.proofs.PlainSettingLemmas.{ArePlainSettings, KeepLines}
 use Rattle.linegrep_cli.proofs.PlainSettingLemmas.{plain-settings}
-use Rattle.linegrep_cli.proofs.PlainTextLemmas.{plain-text}
 use Rattle.linegrep_cli.proofs.PrinterChoiceLemmas.{lines-printer, summary-printer}
 use Rattle.linegrep_cli.proofs.PrinterKindLemmas.{lines-run, summary-run}
 use Rattle.linegrep_cli.proofs.SummaryTextLemmas.{matches-counted}
 use Rattle.linegrep_cli.specs.Corollaries.{IsTextOfInput, UseOnly, counted_line, ended, is_matched_by, numbered}
 use Rattle.linegrep_cli.specs.PrinterOptions.{color_choice, summary_settings}
 use Rattle.linegrep_cli.specs.OptionUses.{has}
-use Rattle.linegrep_cli.specs.SearchTexts.{AreCounts, AreTotals, Findings, Input, IsCountedText}
+use Rattle.linegrep_cli.specs.SearchTexts.{AreCounts, AreTotals, Input}
 use Rattle.linegrep_cli.specs.SearchTexts.{IsTextBy, settings_for}
 use Rattle.linegrep_cli.specs.SearcherOptions.{searcher_settings}
 use Rattle.linegrep_cli.specs.TerminalColors.{colors_for}

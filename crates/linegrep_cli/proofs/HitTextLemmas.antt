@@ -1,7 +1,7 @@
 -- The matches that are the lines that hit, as the texts of these lines.
-use Rattle.std.proofs.Common.{◌≡◌, ◌∙◌, ℕ, zero, suc, ◌+◌, ◌<◌, ◌≤◌, Bool, true, false, List, []}
-use Rattle.std.proofs.Common.{◌∷◌, ◌++◌, drop, length, map, take, Option, None, Some, ap, ap₂, arith}
-use Rattle.std.proofs.Common.{if◌then◌else◌, refl, subst, sym}
+use Rattle.std.proofs.Common.{◌≡◌, ◌∙◌, ℕ, zero, suc, ◌+◌, ◌≤◌, Bool, true, false, List, []}
+use Rattle.std.proofs.Common.{◌∷◌, ◌++◌, drop, length, map, Option, None, Some, ap, ap₂, arith}
+use Rattle.std.proofs.Common.{if◌then◌else◌, refl, sym}
 use Rattle.std.proofs.lemmas.Bool.{lt-ltb}
 use Rattle.std.proofs.lemmas.List.{append-nil, drop_all, drop_more, length-map, take-map}
 use Rattle.std.proofs.lemmas.List.Elements.{All-cons, All-filter, All-head, All-nil, All-tail}
@@ -16,7 +16,6 @@ use Rattle.grep_printer.specs.LineTexts.{plain_line, plain_lines}
 use Rattle.grep_report.specs.SinkReports.{no_surroundings}
 use Rattle.grep_searcher.proofs.LineFilterLemmas.{hits-are_lines}
 use Rattle.grep_searcher.specs.HitLines.{hit_lines, hit_matches, is_hit, items_up_to}
-use Rattle.grep_searcher.specs.HitLines.{lines_as_matches}
 use Rattle.grep_searcher.specs.Plans.{Call, Settings, line, line_count, matches, reported_bytes}
 use Rattle.grep_searcher.specs.Plans.{start}
 use Rattle.grep_searcher.specs.SearchLaws.{match_of, number_of}

@@ -1,14 +1,14 @@
 -- The laws of runs that write lines of one input.
-use Rattle.std.proofs.Common.{◌≡◌, ◌∙◌, ℕ, ◌+◌, Bool, true, false, List, [], ◌∷◌, ◌++◌, Option, None}
-use Rattle.std.proofs.Common.{Some, ap, if◌then◌else◌, length, refl, sym, take}
-use Rattle.std.specs.List.{enumerate_from, flat_map, list_any}
-use Rattle.std.specs.Prelude.{◌&&◌, ◌||◌, Result, filter, nat_lt, not}
+use Rattle.std.proofs.Common.{◌≡◌, ◌∙◌, ℕ, Bool, true, false, List, [], ◌∷◌, ◌++◌, Option, None}
+use Rattle.std.proofs.Common.{Some, ap, if◌then◌else◌, length, refl}
+use Rattle.std.specs.List.{flat_map}
+use Rattle.std.specs.Prelude.{Result, filter, nat_lt, not}
 use Rattle.std.specs.declared.alloc.AllocError.{AllocError}
 use Rattle.std.specs.declared.io.Error.{Error}
 use Rattle.grep_printer.specs.StatsSums.{capped}
 use Rattle.grep_regex.specs.declared.regex.Regex.{Regex}
 use Rattle.grep_searcher.specs.BuiltSettings.{built}
-use Rattle.grep_searcher.specs.HitLines.{hit_lines, items_up_to}
+use Rattle.grep_searcher.specs.HitLines.{items_up_to}
 use Rattle.grep_searcher.specs.Lines.{lines}
 use Rattle.grep_searcher.specs.Meanings.{MatcherFacts}
 use Rattle.grep_searcher.specs.Plans.{Settings}
@@ -22,7 +22,6 @@ use Rattle.linegrep_cli.proofs.UnusedOptionLemmas.{has-none, number-none, others
 use Rattle.linegrep_cli.specs.Corollaries.{Claim, EachRunWith, TellsMatching, UseOnly, WritesFirst}
 use Rattle.linegrep_cli.specs.Corollaries.{WritesCount, WritesMatching, WritesNumbered, WritesOthers, counted_line}
 use Rattle.linegrep_cli.specs.Corollaries.{is_matched_by, ended}
-use Rattle.linegrep_cli.specs.OptionMeanings.{shows_numbers}
 use Rattle.linegrep_cli.specs.OptionUses.{has}
 use Rattle.linegrep_cli.specs.SearchTexts.{settings_for}
 use Rattle.linegrep_cli.specs.SearcherOptions.{asked_settings, searcher_settings}

@@ -1,13 +1,13 @@
 -- What a search of bytes without a NUL prints that reports matches alone: with a printer of lines,
 -- the texts of the lines that hit.
-use Rattle.std.proofs.Common.{◌≡◌, ◌∙◌, ℕ, zero, suc, ◌+◌, Bool, true, false, List, [], ◌∷◌, ◌++◌}
-use Rattle.std.proofs.Common.{Option, None, Some, ap, ap₂, arith, length, refl, subst, sym}
+use Rattle.std.proofs.Common.{◌≡◌, ◌∙◌, ℕ, ◌+◌, false, List, [], ◌++◌}
+use Rattle.std.proofs.Common.{Option, None, ap, ap₂, arith, length, refl, subst, sym}
 use Rattle.std.proofs.lemmas.List.{append-nil}
 use Rattle.std.specs.List.{flat_map}
-use Rattle.std.specs.Prelude.{◌&&◌, not, nat_lt}
+use Rattle.std.specs.Prelude.{nat_lt}
 use Rattle.grep_matcher.specs.Lines.{byte_of}
 use Rattle.grep_printer.specs.CountedTexts.{counted_rules}
-use Rattle.grep_printer.specs.Formats.{AreAlong, Printed, PrintedCall, Rules, Scene, printed_by}
+use Rattle.grep_printer.specs.Formats.{AreAlong, Printed, Rules, Scene}
 use Rattle.grep_printer.specs.StandardTexts.{call_text, progress_after, standard_rules}
 use Rattle.grep_printer.specs.declared.counted.CountedFormat.{CountedFormat}
 use Rattle.grep_printer.specs.declared.hyperlinks.PrinterPath.{PrinterPath}

@@ -1,21 +1,21 @@
 -- The calls of a search by line around which no line is reported: `begin`, and the lines that hit.
-use Rattle.std.proofs.Common.{◌≡◌, ◌∙◌, ℕ, ◌+◌, ◌-◌, ◌<◌, Bool, true, false, List, [], ◌∷◌, map}
-use Rattle.std.proofs.Common.{Option, None, Some, ap, arith, if◌then◌else◌, refl, sym}
+use Rattle.std.proofs.Common.{◌≡◌, ◌∙◌, ℕ, ◌+◌, ◌-◌, ◌<◌, Bool, true, false, List, [], ◌∷◌}
+use Rattle.std.proofs.Common.{None, Some, ap, arith, if◌then◌else◌, refl, sym}
 use Rattle.std.proofs.lemmas.Bool.{lt-leb, ltb-true}
 use Rattle.std.proofs.lemmas.List.Elements.{All-cons, All-map, All-nil}
-use Rattle.std.specs.Prelude.{◌&&◌, not, All, filter, nat_le, nat_lt}
+use Rattle.std.specs.Prelude.{◌&&◌, All, nat_le, nat_lt}
 use Rattle.grep_definitions.proofs.BelowLemmas.{some_below-none}
 use Rattle.grep_definitions.proofs.ListLemmas.{All-joined_from, filter-all}
 use Rattle.grep_definitions.proofs.SearchModeLemmas.{plan-by_line}
 use Rattle.grep_searcher.proofs.LineFilterLemmas.{lines-are_filtered}
 use Rattle.grep_searcher.specs.HitLines.{IsFilter, hit_matches}
 use Rattle.grep_searcher.specs.Meanings.{Meaning}
-use Rattle.grep_searcher.specs.Plans.{Call, Kind, Plan, Planned, Selection, Settings, begins}
-use Rattle.grep_searcher.specs.Plans.{breaks, breaks_before, calls_at, can_break, count_at}
-use Rattle.grep_searcher.specs.Plans.{follows_selected, in_context, is_across, is_reported}
-use Rattle.grep_searcher.specs.Plans.{is_selected, joined_from, kind, line_count, line_plan, matched}
+use Rattle.grep_searcher.specs.Plans.{Call, Plan, Planned, Selection, Settings, begins}
+use Rattle.grep_searcher.specs.Plans.{breaks, breaks_before, calls_at, count_at}
+use Rattle.grep_searcher.specs.Plans.{follows_selected, in_context, is_across}
+use Rattle.grep_searcher.specs.Plans.{is_selected, joined_from, kind, line_count, matched}
 use Rattle.grep_searcher.specs.Plans.{planned, precedes_selected, report, reports_end, search_plan}
-use Rattle.grep_searcher.specs.Plans.{selected_lines, some_below}
+use Rattle.grep_searcher.specs.Plans.{selected_lines}
 use Rattle.grep_searcher.specs.declared.SinkContextKind.TheVariants.{After, Before, Other}
 use Rattle.grep_searcher.specs.SearchLaws.{calls_of, is_match, match_calls}
 

@@ -1,12 +1,12 @@
 -- What is printed of a plan that is `begin` and some matches, by rules under which a search goes on
 -- after each of them.
-use Rattle.std.proofs.Common.{◌≡◌, ◌∙◌, ℕ, zero, suc, ◌+◌, Bool, true, false, List, [], ◌∷◌, ◌++◌}
+use Rattle.std.proofs.Common.{◌≡◌, ◌∙◌, ℕ, suc, ◌+◌, Bool, true, false, List, [], ◌∷◌, ◌++◌}
 use Rattle.std.proofs.Common.{ap, append_assoc, arith, inl, inr, length, refl, subst, sym}
 use Rattle.std.proofs.lemmas.List.{append-nil}
 use Rattle.std.proofs.lemmas.List.Elements.{All-head, All-tail}
 use Rattle.std.specs.List.{flat_map, fold}
-use Rattle.std.specs.Prelude.{All, map}
-use Rattle.grep_printer.specs.Formats.{AreAlong, IsEnd, Printed, PrintedCall, Rules, Scene, printed_by}
+use Rattle.std.specs.Prelude.{All}
+use Rattle.grep_printer.specs.Formats.{AreAlong, Printed, PrintedCall, Rules, Scene, printed_by}
 use Rattle.grep_printer.specs.Formats.{printed_with}
 use Rattle.grep_searcher.specs.Plans.{Call, Finish, Plan, Planned, begins, finishes, planned}
 use Rattle.grep_searcher.specs.SearchLaws.{calls_of, is_match}

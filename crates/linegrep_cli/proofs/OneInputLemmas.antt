@@ -1,14 +1,13 @@
 -- A run that has searched one input: its findings are those of that search, by any content that the
 -- input may have.
-use Rattle.std.proofs.Common.{◌≡◌, ◌∙◌, ℕ, Bool, true, false, List, [], ◌∷◌, ◌++◌, Option, None}
-use Rattle.std.proofs.Common.{ap, length, refl, subst, sym}
+use Rattle.std.proofs.Common.{◌≡◌, ℕ, false, List, [], ◌∷◌, ◌++◌, Option}
+use Rattle.std.proofs.Common.{ap, refl, subst}
 use Rattle.std.proofs.lemmas.List.{same_from_push}
 use Rattle.std.specs.Prelude.{◌||◌}
 use Rattle.grep_printer.specs.Formats.{is_text}
-use Rattle.grep_printer.specs.StatsSums.{stats_sum}
 use Rattle.grep_searcher.specs.Meanings.{MatcherFacts}
 use Rattle.grep_searcher.specs.Plans.{Settings}
-use Rattle.linegrep_cli.specs.SearchTexts.{AreTextsFor, Findings, Input, IsTextFor, findings_then}
+use Rattle.linegrep_cli.specs.SearchTexts.{AreTextsFor, Findings, Input, IsTextFor}
 use Rattle.linegrep_cli.specs.SearchTexts.{next_input, no_findings, no_input}
 use Rattle.linegrep_cli.specs.declared.printers.Printer.{Printer}
 

@@ -1,29 +1,23 @@
 -- A run that has searched one input, by options that change nothing of how its lines are written.
-use Rattle.std.proofs.Common.{◌≡◌, ◌≢◌, ◌⊎◌, ◌∙◌, ℕ, Bool, true, false, List, [], ◌∷◌, ◌++◌, Option}
-use Rattle.std.proofs.Common.{None, Some, ap, ap₂, if◌then◌else◌, length, refl, subst, sym}
+use Rattle.std.proofs.Common.{◌≡◌, ◌∙◌, Bool, true, false, List, Option}
+use Rattle.std.proofs.Common.{None, Some, ap, ap₂, refl, subst}
 use Rattle.std.proofs.Math.Bool.{and-false}
-use Rattle.std.proofs.lemmas.List.{append-nil}
 use Rattle.std.specs.Borrow.{Bor}
-use Rattle.std.specs.List.{flat_map}
-use Rattle.std.specs.Prelude.{◌&&◌, ◌||◌, MatchBool, Result, is_some, nat_lt, not}
-use Rattle.std.specs.declared.alloc.AllocError.{AllocError}
-use Rattle.std.specs.declared.io.Error.{Error}
+use Rattle.std.specs.Prelude.{◌&&◌, not}
 use Rattle.grep_definitions.proofs.BoolLemmas.{clash}
 use Rattle.grep_printer.specs.Formats.{Scene}
 use Rattle.grep_printer.specs.LineTexts.{is_plain}
-use Rattle.grep_printer.specs.StatsSums.{no_stats}
 use Rattle.grep_printer.specs.declared.colors.ColorSpecs.{ColorSpecs}
 use Rattle.grep_printer.specs.declared.colors.ColorSpecs.TheVariants.{Plain}
 use Rattle.grep_printer.specs.declared.colors.ColorTexts.{ColorTexts}
 use Rattle.grep_printer.specs.declared.config.Config.{Config}
-use Rattle.grep_printer.specs.declared.hyperlinks.PrinterPath.{PrinterPath}
 use Rattle.grep_printer.specs.declared.separators.Separators.{Separators}
 use Rattle.grep_printer.specs.declared.summary_builder.SummaryKind.TheVariants.{Count as CountKind}
 use Rattle.grep_regex.specs.Groups.{group_names}
 use Rattle.grep_regex.specs.Views.{regex_options, regex_patterns}
 use Rattle.grep_regex.specs.declared.regex.Regex.{Regex}
 use Rattle.grep_replace.specs.declared.template.Template.{Template}
-use Rattle.linegrep_cli.proofs.PlainSettingLemmas.{IsRefused, KeepLines}
+use Rattle.linegrep_cli.proofs.PlainSettingLemmas.{IsRefused}
 use Rattle.linegrep_cli.proofs.PlainTextLemmas.{WritesLines}
 use Rattle.linegrep_cli.proofs.UnusedOptionLemmas.{AreOthers, has-none, number-none, others, value-none}
 use Rattle.linegrep_cli.specs.Corollaries.{UseOnly}

@@ -1,11 +1,7 @@
 -- The settings of a search, and of the printer, by options that change nothing of them.
-use Rattle.std.proofs.Common.{◌≡◌, ◌∙◌, ℕ, Bool, true, false, List, [], ◌∷◌, Option, None, Some, ap}
+use Rattle.std.proofs.Common.{◌≡◌, ◌∙◌, Bool, true, false, List, ap}
 use Rattle.std.proofs.Common.{if◌then◌else◌, inr, refl, subst, sym}
-use Rattle.std.specs.Borrow.{Bor}
-use Rattle.std.specs.Option.{option_or, unwrap_or}
-use Rattle.std.specs.Prelude.{◌&&◌, ◌||◌, not}
 use Rattle.grep_searcher.specs.BuiltSettings.{built}
-use Rattle.grep_searcher.specs.HitLines.{IsFilter}
 use Rattle.grep_searcher.specs.Plans.{Settings}
 use Rattle.grep_searcher.specs.declared.BinaryDetection.{BinaryDetection}
 use Rattle.grep_searcher.specs.declared.BinaryDetection.TheVariants.{None as no_detection, Quit}
@@ -13,13 +9,13 @@ use Rattle.grep_searcher.specs.declared.BinaryDetection.TheVariants.{Convert}
 use Rattle.grep_searcher.specs.declared.LineTerminator.TheVariants.{Byte}
 use Rattle.linegrep_cli.proofs.MatchPlanLemmas.{ReportsMatches}
 use Rattle.linegrep_cli.proofs.TextSearchLemmas.{LooksForNul}
-use Rattle.linegrep_cli.proofs.UnusedOptionLemmas.{has-none, number-none, others, value-none}
+use Rattle.linegrep_cli.proofs.UnusedOptionLemmas.{has-none}
 use Rattle.linegrep_cli.specs.Corollaries.{UseOnly, changes_more}
-use Rattle.linegrep_cli.specs.OptionMeanings.{after_lines, before_lines, shows_columns, shows_numbers}
+use Rattle.linegrep_cli.specs.OptionMeanings.{after_lines, before_lines}
 use Rattle.linegrep_cli.specs.OptionUses.{has}
 use Rattle.linegrep_cli.specs.PrintingEngines.{detection_with}
 use Rattle.linegrep_cli.specs.SearchTexts.{settings_for}
-use Rattle.linegrep_cli.specs.SearcherOptions.{asked_settings, detection_of, searcher_settings}
+use Rattle.linegrep_cli.specs.SearcherOptions.{asked_settings, searcher_settings}
 use Rattle.linegrep_cli.specs.declared.options.Options.{Options}
 use Rattle.linegrep_options.specs.declared.option_id.OptionId.{OptionId}
 use Rattle.linegrep_options.specs.declared.option_id.OptionId.TheVariants.{AfterContext}

@@ -1,17 +1,16 @@
 -- The texts of matches as lines as they are, and what a format keeps of them.
-use Rattle.std.proofs.Common.{◌≡◌, ◌∙◌, ℕ, zero, suc, ◌+◌, Bool, true, false, List, [], ◌∷◌, ◌++◌}
-use Rattle.std.proofs.Common.{Option, None, Some, ap, arith, if◌then◌else◌, length, refl, subst, sym}
+use Rattle.std.proofs.Common.{◌≡◌, ◌∙◌, ℕ, suc, Bool, true, false, List, [], ◌++◌}
+use Rattle.std.proofs.Common.{Option, None, ap, arith, if◌then◌else◌, length, refl, subst, sym}
 use Rattle.std.proofs.lemmas.Bool.{lt-ltb}
 use Rattle.std.specs.Prelude.{◌&&◌, ◌==◌, is_some, nat_lt, not}
 use Rattle.grep_matcher.specs.Lines.{byte_of}
 use Rattle.grep_printer.proofs.PlainLineLemmas.{lines-plain}
-use Rattle.grep_printer.specs.ColoredTexts.{path_color}
 use Rattle.grep_printer.specs.CountedTexts.{counted_rules}
 use Rattle.grep_printer.specs.Formats.{PrintedCall, Scene}
-use Rattle.grep_printer.specs.LineTexts.{end_byte, is_plain, path_field, plain_lines, separator_text}
+use Rattle.grep_printer.specs.LineTexts.{end_byte, is_plain, plain_lines}
 use Rattle.grep_printer.specs.PartTexts.{column_of, match_text, writes_parts}
-use Rattle.grep_printer.specs.StandardTexts.{call_text, goes_on, is_hidden, layout_of, message_text}
-use Rattle.grep_printer.specs.StandardTexts.{progress_after, report_text, standard_rules, text_before}
+use Rattle.grep_printer.specs.StandardTexts.{call_text, goes_on, is_hidden, layout_of}
+use Rattle.grep_printer.specs.StandardTexts.{progress_after, standard_rules, text_before}
 use Rattle.grep_printer.specs.declared.config.Config.{Config}
 use Rattle.grep_printer.specs.declared.counted.CountedFormat.{CountedFormat}
 use Rattle.grep_printer.specs.declared.standard.Progress.{Progress}
@@ -20,7 +19,7 @@ use Rattle.grep_searcher.specs.BinaryDetections.{convert_byte_of}
 use Rattle.grep_searcher.specs.Lines.{lines}
 use Rattle.grep_searcher.specs.Plans.{Call, begins, binary_data, breaks, context, finishes, matches}
 use Rattle.grep_searcher.specs.SearchLaws.{is_match}
-use Rattle.linegrep_cli.proofs.MatchWalkLemmas.{AreSteps, IsStep}
+use Rattle.linegrep_cli.proofs.MatchWalkLemmas.{AreSteps}
 
 -- the lines of a call that reports a match, each after its number, if it has one
 abbrev pub plain-text : ℕ → Call → List ℕ

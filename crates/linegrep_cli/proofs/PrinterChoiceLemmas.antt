@@ -1,9 +1,8 @@
 -- The printer of a run, by options that change nothing of it.
-use Rattle.std.proofs.Common.{◌≡◌, ◌∙◌, ℕ, Bool, true, false, List, [], ◌∷◌, Option, None, Some, ap}
-use Rattle.std.proofs.Common.{if◌then◌else◌, refl, subst, sym}
+use Rattle.std.proofs.Common.{◌≡◌, ◌∙◌, Bool, false, Option, None, Some, ap}
+use Rattle.std.proofs.Common.{subst, sym}
 use Rattle.std.proofs.lemmas.Option.{same_Some}
 use Rattle.std.specs.Borrow.{Bor}
-use Rattle.std.specs.Prelude.{◌&&◌, ◌||◌, not}
 use Rattle.grep_definitions.proofs.BoolLemmas.{clash}
 use Rattle.grep_printer.specs.declared.colors.ColorSpecs.{ColorSpecs}
 use Rattle.grep_printer.specs.declared.separators.Separators.{Separators}

@@ -1,10 +1,9 @@
 -- What a search prints that reports matches alone, with a printer that counts them, or that writes
 -- the path of a file with a match.
-use Rattle.std.proofs.Common.{◌≡◌, ◌∙◌, ℕ, zero, suc, ◌+◌, Bool, true, false, List, [], ◌∷◌, ◌++◌}
-use Rattle.std.proofs.Common.{Option, None, Some, ap, arith, if◌then◌else◌, length, refl, subst, sym}
-use Rattle.std.proofs.lemmas.List.{append-nil}
+use Rattle.std.proofs.Common.{◌≡◌, ◌∙◌, ℕ, suc, ◌+◌, true, false, List, [], ◌∷◌, ◌++◌}
+use Rattle.std.proofs.Common.{Option, None, ap, arith, length, refl}
 use Rattle.std.specs.List.{flat_map}
-use Rattle.std.specs.Prelude.{◌&&◌, ◌||◌, max, not, nat_lt}
+use Rattle.std.specs.Prelude.{◌||◌, nat_lt}
 use Rattle.grep_matcher.specs.Lines.{byte_of}
 use Rattle.grep_printer.proofs.PlanCountLemmas.{capped-more}
 use Rattle.grep_printer.specs.CountedTexts.{counted_rules}

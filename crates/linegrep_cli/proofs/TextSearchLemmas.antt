@@ -1,18 +1,17 @@
 -- A search by line of bytes that have no NUL: no byte is found to be binary, and they are searched
 -- as they are.
 use Rattle.std.proofs.Common.{◌≡◌, ◌≢◌, ◌∙◌, ℕ, Bool, true, false, List, [], ◌∷◌, Option, None, Some}
-use Rattle.std.proofs.Common.{ap, ap₂, if◌then◌else◌, length, map, refl, subst, sym, take}
+use Rattle.std.proofs.Common.{ap, if◌then◌else◌, map, refl, sym}
 use Rattle.std.proofs.lemmas.Bool.{eqb-true, ne_eqb}
 use Rattle.std.proofs.lemmas.List.Elements.{All-get_or, All-head, All-tail}
 use Rattle.std.proofs.lemmas.List.Quantifiers.{position-Some}
-use Rattle.std.specs.List.{position}
 use Rattle.std.specs.Prelude.{◌&&◌, ◌==◌, All, get_or, not}
 use Rattle.grep_matcher.specs.Lines.{byte_of}
-use Rattle.grep_searcher.specs.Meanings.{Meaning, MatcherFacts}
+use Rattle.grep_searcher.specs.Meanings.{Meaning}
 use Rattle.grep_searcher.specs.Plans.{Planned, Settings, is_across, search_plan}
-use Rattle.grep_searcher.specs.Searches.{BinaryPoint, IsPoint, Look, binary_of, binary_position}
+use Rattle.grep_searcher.specs.Searches.{BinaryPoint, IsPoint, Look, binary_position}
 use Rattle.grep_searcher.specs.Searches.{in_contents, look_at, look_of, nowhere, on_stream}
-use Rattle.grep_searcher.specs.Searches.{position_of, stream_view, view_in, view_of, viewed_plan}
+use Rattle.grep_searcher.specs.Searches.{position_of, stream_view, view_in, viewed_plan}
 use Rattle.grep_searcher.specs.declared.BinaryDetection.{BinaryDetection}
 use Rattle.grep_searcher.specs.declared.BinaryDetection.TheVariants.{None as no_detection, Quit}
 use Rattle.grep_searcher.specs.declared.BinaryDetection.TheVariants.{Convert}

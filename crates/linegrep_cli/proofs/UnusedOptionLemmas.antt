@@ -1,19 +1,19 @@
 -- Options that aren't used: none of them applies, and none has a value.
 use Rattle.std.proofs.Common.{◌≡◌, ◌⊎◌, ◌∙◌, ℕ, ◌-◌, ◌<◌, Bool, true, false, List, [], ◌∷◌, Option}
-use Rattle.std.proofs.Common.{None, Some, ap, arith, get_or, inl, inr, length, refl, subst, sym}
+use Rattle.std.proofs.Common.{None, Some, ap, arith, inl, inr, length, refl, subst, sym}
 use Rattle.std.proofs.lemmas.Bool.{eqb-true}
 use Rattle.std.proofs.lemmas.List.{get_or-reverse, length-reverse}
 use Rattle.std.proofs.lemmas.List.Elements.{All-head, All-tail, All-weaker}
 use Rattle.std.specs.Borrow.{Bor}
 use Rattle.std.specs.List.{find, list_any}
 use Rattle.std.specs.Option.{option_and_then}
-use Rattle.std.specs.Prelude.{◌&&◌, ◌||◌, ◌==◌, All, cond, not, reverse}
-use Rattle.linegrep_cli.specs.Corollaries.{UseOnly, changes_more, changing_options, is_among}
+use Rattle.std.specs.Prelude.{◌&&◌, ◌==◌, All, cond, not, reverse}
+use Rattle.linegrep_cli.specs.Corollaries.{UseOnly, changes_more, changing_options}
 use Rattle.linegrep_cli.specs.OptionUses.{has}
 use Rattle.linegrep_cli.specs.OptionValues.{number_for}
 use Rattle.linegrep_cli.specs.declared.options.Options.{Options}
 use Rattle.linegrep_options.specs.CommandLines.{number_of}
-use Rattle.linegrep_options.specs.OptionUses.{applies, decides, is_same, last_use, last_value}
+use Rattle.linegrep_options.specs.OptionUses.{applies, decides, is_same, last_value}
 use Rattle.linegrep_options.specs.Rows.{all_contraries}
 use Rattle.linegrep_options.specs.contracts.option_id.OptionId.{the_type}
 use Rattle.linegrep_options.specs.declared.option_id.OptionId.{OptionId}

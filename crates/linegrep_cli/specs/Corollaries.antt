@@ -17,8 +17,6 @@ use Rattle.grep_searcher.specs.Meanings.{MatcherFacts}
 use Rattle.grep_searcher.specs.Searches.{searched_bytes}
 use Rattle.grep_searcher.specs.Source.{ReadResult}
 use Rattle.grep_searcher.specs.declared.LineTerminator.TheVariants.{Byte}
-use Rattle.linegrep_cli.specs.OperandRuns.{is_input}
-use Rattle.linegrep_cli.specs.OptionMeanings.{paths_of}
 use Rattle.linegrep_cli.specs.OptionUses.{has}
 use Rattle.linegrep_cli.specs.OptionValues.{AreOptions}
 use Rattle.linegrep_cli.specs.SearchTexts.{Input, MayHave}
