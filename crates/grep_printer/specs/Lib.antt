@@ -18,6 +18,7 @@ pub mod LinkedFields
 pub mod MatchedParts
 pub mod PartErrors
 pub mod PartTexts
+pub mod PathTexts
 pub mod PlanCounts
 pub mod PrintedSearches
 pub mod PrinterSteps
