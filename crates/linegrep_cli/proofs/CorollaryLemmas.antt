@@ -195,7 +195,7 @@ module _ {F R W M : Type 0} (contents : W → Option (List ℕ)) (before : List 
         let across = is_across (searcher_settings options) meaning in
         let colors = colors_for run.colors (color_choice options) options.streams in
         let kind = lines-printer options across run.separators run.matcher run.template colors
-        run.printer (no-summary allowed options only keeps look keep.files across)
+        run.printer (no-summary allowed options only keeps look across)
         (not-vimgrep allowed options only keeps) (not-json allowed options only keeps)
         (no-template allowed options only keeps regex run.template run.is_template) run.is_printer in
         let chosen = lines-run run.printer kind in
@@ -257,7 +257,7 @@ module _ {F R W M : Type 0} (contents : W → Option (List ℕ)) (before : List 
         let total = length (hit_lines k meaning text) in
         let kind = summary-printer options across run.separators run.matcher run.template colors
         run.printer CountKind
-        (count-kind allowed options only keeps counting keep.files counts across
+        (count-kind allowed options only keeps counting counts across
         (by-line-of k meaning plain)) run.is_printer in
         let chosen = summary-run run.printer kind in
         let result = matches-counted facts first_at k run.matcher one.path text plain of.no_nul

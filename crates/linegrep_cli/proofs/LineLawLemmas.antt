@@ -83,7 +83,6 @@ module _ (allowed : List OptionId) (options : Options) (only : UseOnly allowed o
 
 bare-lines : KeepLines ([])
 bare-lines = record {
-  files = refl;
   multiline = refl;
   crlf = refl;
   null_data = refl;
@@ -125,7 +124,6 @@ bare-look = record {
 
 other-lines : KeepLines (InvertMatch ∷ [])
 other-lines = record {
-  files = refl;
   multiline = refl;
   crlf = refl;
   null_data = refl;
@@ -167,7 +165,6 @@ other-look = record {
 
 number-lines : KeepLines (LineNumber ∷ [])
 number-lines = record {
-  files = refl;
   multiline = refl;
   crlf = refl;
   null_data = refl;
@@ -209,7 +206,6 @@ number-look = record {
 
 first-lines : KeepLines (MaxCount ∷ [])
 first-lines = record {
-  files = refl;
   multiline = refl;
   crlf = refl;
   null_data = refl;
@@ -251,7 +247,6 @@ first-look = record {
 
 count-lines : KeepLines (Count ∷ [])
 count-lines = record {
-  files = refl;
   multiline = refl;
   crlf = refl;
   null_data = refl;

@@ -35,7 +35,7 @@ use Rattle.linegrep_options.specs.declared.option_id.OptionId.TheVariants.{Colum
 use Rattle.linegrep_options.specs.declared.option_id.OptionId.TheVariants.{Count, CountMatches}
 use Rattle.linegrep_options.specs.declared.option_id.OptionId.TheVariants.{FieldContextSeparator}
 use Rattle.linegrep_options.specs.declared.option_id.OptionId.TheVariants.{FieldMatchSeparator}
-use Rattle.linegrep_options.specs.declared.option_id.OptionId.TheVariants.{Files, FilesWithMatches}
+use Rattle.linegrep_options.specs.declared.option_id.OptionId.TheVariants.{FilesWithMatches}
 use Rattle.linegrep_options.specs.declared.option_id.OptionId.TheVariants.{FilesWithoutMatch}
 use Rattle.linegrep_options.specs.declared.option_id.OptionId.TheVariants.{Heading, IncludeZero}
 use Rattle.linegrep_options.specs.declared.option_id.OptionId.TheVariants.{InvertMatch}
@@ -160,11 +160,10 @@ module _ (allowed : List OptionId) (options : Options) (only : UseOnly allowed o
       }
 
   -- lines are written, and no summary
-  pub no-summary : KeepLook allowed → IsRefused allowed Files → (across : Bool)
+  pub no-summary : KeepLook allowed → (across : Bool)
       → summary_kind options across ≡ None
-  no-summary look files across = rw (
+  no-summary look across = rw (
     none Quiet look.quiet,
-    none Files files,
     none CountMatches look.count_matches,
     none Count look.count,
     and-false (not (has options InvertMatch)),
@@ -173,11 +172,10 @@ module _ (allowed : List OptionId) (options : Options) (only : UseOnly allowed o
   ) refl
 
   -- how many lines match is written, in a search by line
-  pub count-kind : KeepCount allowed → IsRefused allowed Files → has options Count ≡ true
+  pub count-kind : KeepCount allowed → has options Count ≡ true
       → (across : Bool) → across ≡ false → summary_kind options across ≡ Some CountKind
-  count-kind look files counts across by-line = rw (
+  count-kind look counts across by-line = rw (
     none Quiet look.quiet,
-    none Files files,
     none CountMatches look.count_matches,
     counts,
     none OnlyMatching text.only_matching,

@@ -20,7 +20,7 @@ use Rattle.linegrep_cli.specs.declared.options.Options.{Options}
 use Rattle.linegrep_options.specs.declared.option_id.OptionId.{OptionId}
 use Rattle.linegrep_options.specs.declared.option_id.OptionId.TheVariants.{AfterContext}
 use Rattle.linegrep_options.specs.declared.option_id.OptionId.TheVariants.{BeforeContext, Context}
-use Rattle.linegrep_options.specs.declared.option_id.OptionId.TheVariants.{Crlf, Files, Multiline}
+use Rattle.linegrep_options.specs.declared.option_id.OptionId.TheVariants.{Crlf, Multiline}
 use Rattle.linegrep_options.specs.declared.option_id.OptionId.TheVariants.{NullData, Passthru}
 use Rattle.linegrep_options.specs.declared.option_id.OptionId.TheVariants.{StopOnNonmatch}
 
@@ -30,7 +30,6 @@ IsRefused allowed option = changes_more allowed option ≡ true
 
 -- none is allowed that changes lines, their terminators or their context
 pub record KeepLines (allowed : List OptionId) : Type 0 where
-  pub files : IsRefused allowed Files
   pub multiline : IsRefused allowed Multiline
   pub crlf : IsRefused allowed Crlf
   pub null_data : IsRefused allowed NullData
@@ -63,9 +62,8 @@ module _ (allowed : List OptionId) (options : Options) (only : UseOnly allowed o
   none : (option : OptionId) → IsRefused allowed option → has options option ≡ false
   none option refused = has-none allowed options only option refused
 
-  -- the settings aren't those of files that are listed
   pub asked : searcher_settings options ≡ built (asked_settings options)
-  asked = rw (none Files keep.files) refl
+  asked = refl
 
   asked-after : (if has options Passthru then 0 else after_lines options) ≡ 0
   asked-after = rw (none Passthru keep.passthru, none AfterContext keep.after, none Context keep.context) refl

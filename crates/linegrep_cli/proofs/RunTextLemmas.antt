@@ -1,15 +1,13 @@
 -- What a whole run has written whose status isn't 2.
 use Rattle.std.proofs.Common.{◌≡◌, ◌∙◌, ℕ, Bool, true, false, List, [], ◌++◌, ap, refl, subst, sym}
 use Rattle.std.proofs.Common.{◌⊎◌, inl, inr, true≢false}
-use Rattle.std.specs.Prelude.{◌≢◌, ◌&&◌, MatchOption, None, Option, Some, Result, Ok, Err, Vec}
-use Rattle.std.specs.Prelude.{if◌then◌else◌, is_some, not}
+use Rattle.std.specs.Prelude.{◌≢◌, ◌&&◌, None, Option, Some, Result, Ok, Err, Vec}
+use Rattle.std.specs.Prelude.{if◌then◌else◌}
 use Rattle.std.specs.Borrow.{Bor}
 use Rattle.std.specs.Global.{Global}
 use Rattle.std.specs.declared.alloc.AllocError.{AllocError}
 use Rattle.std.specs.declared.io.Error.{Error}
 use Rattle.std.specs.Io.KnownBytes.{Appends}
-use Rattle.std.specs.IoError.{error_kind}
-use Rattle.std.specs.declared.io.ErrorKind.TheVariants.{BrokenPipe}
 use Rattle.grep_output.specs.Outputs.{OutputCall, taken_by}
 use Rattle.grep_printer.specs.declared.colors.ColorSpecs.{ColorSpecs}
 use Rattle.grep_printer.specs.declared.printer.Printer.{Printer as Writer}
@@ -28,13 +26,13 @@ use Rattle.linegrep_cli.proofs.OutputTextLemmas.{all-flushed, flush-failed}
 use Rattle.linegrep_cli.proofs.PrinterTextLemmas.{IsPrinterAfter, IsRunAfter, IsWriterAfter, pending_of}
 use Rattle.linegrep_cli.proofs.PrinterTotalLemmas.{after-unfailed}
 use Rattle.linegrep_cli.proofs.LateTextLemmas.{ordered-visited}
-use Rattle.linegrep_cli.proofs.VisitSoundLemmas.{CallsKeep, Ends, all-said, ordered-ended}
-use Rattle.linegrep_cli.proofs.VisitTextLemmas.{IsGood, StepsKeep, said-all}
+use Rattle.linegrep_cli.proofs.ListingTextLemmas.{listing-written}
+use Rattle.linegrep_cli.proofs.RunEndLemmas.{IsWhole, good-status, none-if, run-ended}
+use Rattle.linegrep_cli.proofs.VisitSoundLemmas.{CallsKeep}
+use Rattle.linegrep_cli.proofs.VisitTextLemmas.{StepsKeep, said-all}
 use Rattle.linegrep_cli.specs.EngineCalls.{EngineCall, finishes}
 use Rattle.linegrep_cli.specs.EngineSteps.{has_failed}
-use Rattle.linegrep_cli.specs.OperandRuns.{AreOperandsSearched, IsFailing, IsRunEnd, of_closed, of_end, of_failure}
-use Rattle.linegrep_cli.specs.OperandRuns.{of_other}
-use Rattle.linegrep_cli.specs.OperandRuns.{of_unwritten, status_of}
+use Rattle.linegrep_cli.specs.OperandRuns.{status_of}
 use Rattle.linegrep_cli.specs.OptionMeanings.{paths_of}
 use Rattle.linegrep_cli.specs.OptionUses.{has}
 use Rattle.linegrep_cli.specs.PathSeparators.{path_separator_of}
@@ -43,7 +41,8 @@ use Rattle.linegrep_cli.specs.PrintingEngines.{IsEngineStep, detection_with}
 use Rattle.linegrep_cli.specs.ProgramRuns.{without_memory}
 use Rattle.linegrep_cli.specs.ProgramRuns.{IsAnswered, IsOptionsRun, IsProgramRun}
 use Rattle.linegrep_cli.specs.ProgramRuns.{no_memory}
-use Rattle.linegrep_cli.specs.ProgramRuns.{of_fault, of_options, of_parsed, of_refusal, of_search as OfSearch}
+use Rattle.linegrep_cli.specs.ProgramRuns.{of_fault, of_listing as OfListing, of_options, of_parsed, of_refusal}
+use Rattle.linegrep_cli.specs.ProgramRuns.{of_search as OfSearch}
 use Rattle.linegrep_cli.specs.ProgramRuns.{of_text, of_types}
 use Rattle.linegrep_cli.specs.ProgramRuns.{out_of_memory}
 use Rattle.linegrep_cli.specs.RunInputs.{AreSearched, IsFileInput, IsReaderInput}
@@ -51,8 +50,8 @@ use Rattle.linegrep_cli.specs.SearchTexts.{Input, no_findings, no_input, setting
 use Rattle.linegrep_cli.specs.SearcherOptions.{searcher_settings}
 use Rattle.linegrep_cli.specs.WholeRuns.{IsRunFor, IsRunWith, Literal, Named, literal_facts, literal_first_at}
 use Rattle.linegrep_cli.specs.WholeRuns.{literal_groups_at, named_facts, named_first_at, named_groups_at, naming_of}
-use Rattle.linegrep_cli.specs.WrittenRuns.{AreOptionsFor, DoesAsAsked, HasEnded, HasFailedWith, HasWritten, IsAnswer}
-use Rattle.linegrep_cli.specs.WrittenRuns.{IsClosed, WritesFound, of_answer, of_search}
+use Rattle.linegrep_cli.specs.WrittenRuns.{AreOptionsFor, DoesAsAsked, HasEnded, HasFailedWith, HasListed, HasWritten, IsAnswer}
+use Rattle.linegrep_cli.specs.WrittenRuns.{IsClosed, of_answer, of_listing, of_search}
 use Rattle.linegrep_cli.specs.declared.counted_run.CountedRun.{CountedRun}
 use Rattle.linegrep_cli.specs.declared.engine.PrintingEngine.{PrintingEngine}
 use Rattle.linegrep_cli.specs.declared.options.Options.{Options}
@@ -61,7 +60,6 @@ use Rattle.linegrep_cli.specs.declared.printers.Printer.TheVariants.{Json, Lines
 use Rattle.linegrep_cli.specs.declared.printers.Printer.TheVariants.{Summary}
 use Rattle.linegrep_cli.specs.declared.program.Streams.{Streams}
 use Rattle.linegrep_cli.specs.declared.scope.Scope.{Scope}
-use Rattle.linegrep_cli.specs.declared.visit.Visit.{Visit}
 use Rattle.linegrep_options.specs.declared.option_id.OptionId.TheVariants.{Files, Quiet}
 use Rattle.linegrep_files.specs.FolderFacts.{FolderFacts}
 use Rattle.linegrep_files.specs.declared.file_id.FileId.{FileId}
@@ -93,10 +91,6 @@ begun-printer options across separators matcher template colors (Json run)
     (kind, json, begins, replacing, new, counts) =
     (record { writer = begun-writer options run.printer new; counts = counts }, new.pending)
 
-none-if : {T : Type 0} (is : Bool) (value : T) → is ≡ false → (if is then Some value else None) ≡ None
-none-if true value isnt = absurd (true≢false isnt)
-none-if false value isnt = refl
-
 -- binary files are searched to their end at first
 ends-late : (settings : Settings) → settings ≡ settings_for settings false
 ends-late settings = ap (λ d. record settings { binary_detection = d }) (by settings.binary_detection)
@@ -105,23 +99,6 @@ ends-late settings = ap (λ d. record settings { binary_detection = d }) (by set
     by no_detection = refl
     by (Quit byte) = refl
     by (Convert byte) = refl
-
--- a status that isn't 2 shows that nothing went wrong
-good-status : (scope : Scope) (total : Visit) → scope.quiet ≡ None → status_of scope total ≢ 2
-    → (total.has_error ≡ false) × (status_of scope total ≡ (if total.has_match then 0 else 1))
-good-status scope total unquiet other =
-    let is = ap (λ quiet. if total.has_error && not (is_some quiet && total.has_match) then 2
-    else if total.has_match then 0 else 1) unquiet in
-    let (none, same) = by total.has_error total.has_match (λ wrong. other (is ∙ wrong)) in
-    (none, is ∙ same)
-  where
-    ending : Bool → Bool → ℕ
-    ending error match = if error && not (false && match) then 2 else if match then 0 else 1
-
-    by : (error match : Bool) → ending error match ≢ 2
-        → (error ≡ false) × (ending error match ≡ (if match then 0 else 1))
-    by true match other = absurd (other refl)
-    by false match other = (refl, refl)
 
 module _ {S F R W X : Type 0} (output : AllocError → Option (List ℕ)) (contents : W → Option (List ℕ))
     (write_step : W → OutputCall → W → Type 0) (say_step : X → OutputCall → X → Type 0)
@@ -146,7 +123,7 @@ module _ {S F R W X : Type 0} (output : AllocError → Option (List ℕ)) (conte
   module _ {M : Type 0} (facts : M → MatcherFacts AllocError) (first_at : M → List ℕ → ℕ → Option (ℕ × ℕ))
       (groups_at : M → List ℕ → ℕ → List (Option (ℕ × ℕ))) (regex : Regex) (input : R) (writer : W) (errors : X)
       (status : ℕ) (input' : R) (writer' : W) (held : contents writer ≡ Some before) (other : status ≢ 2)
-      (writes : WritesFound options)
+      (loud : has options Quiet ≡ false) (searching : has options Files ≡ false)
       (run-for : IsRunFor output facts first_at groups_at write_step file_remaining remaining read_step facts_of system finds
       opens identifies options regex input writer errors status input' writer') where
     abbrev run : IsRunWith output facts first_at groups_at write_step file_remaining remaining read_step facts_of system
@@ -174,13 +151,13 @@ module _ {S F R W X : Type 0} (output : AllocError → Option (List ℕ)) (conte
 
     unquiet : run.scope.quiet ≡ None
     unquiet = ap (λ (s : Scope). s.quiet) run.is_scope.2
-        ∙ none-if (has options Quiet) _ writes.quiet
+        ∙ none-if (has options Quiet) _ loud
 
     searches : run.scope.lists_files ≡ false
-    searches = ap (λ (s : Scope). s.lists_files) run.is_scope.2 ∙ writes.files
+    searches = ap (λ (s : Scope). s.lists_files) run.is_scope.2 ∙ searching
 
     reads_input : run.scope.lists_input ≡ false
-    reads_input = ap (λ (s : Scope). s.lists_input) run.is_scope.2 ∙ writes.files
+    reads_input = ap (λ (s : Scope). s.lists_input) run.is_scope.2 ∙ searching
 
     begun : IsPrinterAfter run.first.printer run.first.printer no_findings × (pending_of run.first.printer ≡ [])
     begun = begun-printer options _ run.begins.separators run-for.matcher run-for.template _ run.first.printer
@@ -240,158 +217,88 @@ module _ {S F R W X : Type 0} (output : AllocError → Option (List ℕ)) (conte
         settings
         (path_separator_of options) facts_of system run.first.hyperlinks run-for.matcher trusted run.first.printer before
 
+    is-unfailed : (engine : PrintingEngine S F M R W X) → Sound engine → has_failed engine.printer ≡ false
+    is-unfailed engine sound = sound.unfailed
+
+    finishing : (old new : PrintingEngine S F M R W X) (error : Error) → Sound old → Step old (finishes (Err error)) new
+        → Sound new ⊎ Cut error new
+    finishing old new error sound failed = elim (finishes-after output facts first_at groups_at write_step file_remaining
+        remaining read_step contents grows settings (path_separator_of options) facts_of system run.first.hyperlinks
+        run-for.matcher trusted run.first.printer before old new error sound failed) [
+          | inl still ↦ inl (finishes-sound output facts first_at groups_at write_step file_remaining remaining read_step
+              contents grows settings (path_separator_of options) facts_of system run.first.hyperlinks run-for.matcher
+              trusted run.first.printer before old new (Err error) sound failed still)
+          | inr cut ↦ inr cut
+        ]
+
     abbrev Written : Type 0
     Written = IsClosed write_step writer' ⊎ HasWritten contents before file_remaining remaining read_step folders finds
         opens identifies facts first_at groups_at options regex input status input' writer'
 
-    -- a run that fails has status 2, unless nobody reads its output any more
-    abbrev Failed : Error → PrintingEngine S F M R W X → Type 0
-    Failed error mid = Sound mid ⊎ (Cut error mid ⊎ (error_kind error ≢ BrokenPipe))
-
-    closed : (error : Error) (mid : PrintingEngine S F M R W X) → Failed error mid
-        → IsFailing Step (λ engine. has_failed engine.printer) run.scope error mid status run.last
-        → IsClosed write_step writer'
-    closed error mid ended failing = by status run.last failing other refl
+    -- all was visited and written: the texts of the searches
+    whole : IsWhole folders finds opens identifies Step (λ engine. has_failed engine.printer) run.scope Sound Cut keep
+        is-unfailed finishing run.choices (paths_of options) run.first status run.last other → Written
+    whole is =
+        let (inputs, reader, are, now) = ordered-visited folders finds opens identifies Step
+        (λ engine. has_failed engine.printer) run.scope IsFile IsReader At kept unquiet searches reads_input input is.left
+        (paths_of options) is.begun is.total is.mid is.visited (record {
+          no_error = (good-status run.scope is.total unquiet well).0;
+          no_failure = is.no_failure;
+        })
+        (said-all folders finds opens identifies Step (λ engine. has_failed engine.printer) run.scope IsFile IsReader At
+        kept unquiet searches reads_input false [] false input run.first is.warned None is.begun is.said refl at-first) in
+        let done = finishes-kept output facts first_at groups_at write_step file_remaining remaining read_step contents
+        grows settings (path_separator_of options) facts_of system run.first.hyperlinks run-for.matcher trusted
+        run.first.printer before inputs is.total.has_match reader is.mid run.last now is.finished in
+        inr (record {
+          accepted = run.accepted;
+          matcher = run-for.matcher;
+          is_matcher = run-for.is_matcher;
+          groups = run-for.groups;
+          template = run-for.template;
+          is_template = run-for.is_template;
+          separators = run.begins.separators;
+          are_separators = run.begins.lent;
+          colors = run.begins.chosen;
+          are_colors = run.begins.colored;
+          hyperlinks = run.first.hyperlinks;
+          are_hyperlinks = run.begins.hyperlinks;
+          printer = run.first.printer;
+          is_printer = run.begins.printer;
+          scope = run.scope;
+          is_scope = run.is_scope;
+          named = run.choices;
+          are_named = run.are_choices;
+          choices = is.left;
+          are_choices = is.same;
+          inputs = inputs;
+          are_searched = subst
+              (λ r. AreSearched folders finds opens identifies run.scope IsFile IsReader is.left (paths_of options) input
+              inputs r) (sym (run.input_after ∙ done.reads)) are;
+          findings = done.findings;
+          texts = done.texts;
+          totals = done.totals;
+          are_totals = done.are_totals;
+          written = ap contents run.writer_after ∙ done.holds;
+          status_is = is.status_is ∙ ((good-status run.scope is.total unquiet well).1
+              ∙ ap (λ found. if found then 0 else 1) (sym done.found_is));
+        })
       where
-        by : (status-then : ℕ) (last : PrintingEngine S F M R W X)
-            → IsFailing Step (λ engine. has_failed engine.printer) run.scope error mid status-then last
-            → status-then ≢ 2
-            → last ≡ run.last → IsClosed write_step writer'
-        by _ _ (of_closed failed broken) other same = elim ended [
-          | inl sound ↦ absurd (true≢false (sym failed ∙ sound.unfailed))
-          | inr (inl cut) ↦ (
-            error,
-            broken,
-            subst (HasFailedWith write_step error)
-                (ap (λ (e : PrintingEngine S F M R W X). e.writer) same ∙ sym run.writer_after) cut,
-          )
-          | inr (inr unbroken) ↦ absurd (unbroken broken)
-        ]
-        by _ _ (of_other said moved kind) other same = absurd (other refl)
-
-    -- what is known if operands were searched
-    ran : (start : PrintingEngine S F M R W X) → At false [] false input start → Sound start
-        → AreOperandsSearched folders finds opens identifies Step (λ engine. has_failed engine.printer) run.scope
-        run.run.left (paths_of options) start status run.last
-        → Written
-    ran start at sound searched = by status searched.ended refl
-      where
-        mid-ended : Ends Step (λ engine. has_failed engine.printer) Sound Cut searched.total.failure searched.mid
-        mid-ended = ordered-ended folders finds opens identifies Step
-            (λ engine. has_failed engine.printer) run.scope searches reads_input
-            Sound Cut keep run.run.left (paths_of options) start searched.total searched.mid searched.visited sound
-
-        good : searched.total.failure ≡ None → (status_of run.scope searched.total ≢ 2) → IsGood searched.total
-        good none other = record {
-          no_error = (good-status run.scope searched.total unquiet other).0;
-          no_failure = none;
-        }
-
-        ended-well : searched.total.failure ≡ None → status ≡ status_of run.scope searched.total
-            → Step searched.mid (finishes (Ok tt)) run.last → Written
-        ended-well none is finished =
-            let is-well = subst (λ s. s ≢ 2) is other in
-            let (inputs, reader, are, now) = ordered-visited folders finds opens identifies Step
-            (λ engine. has_failed engine.printer) run.scope IsFile IsReader At kept unquiet searches reads_input input
-            run.run.left
-            (paths_of options) start searched.total searched.mid searched.visited (good none is-well) at in
-            let done = finishes-kept output facts first_at groups_at write_step file_remaining remaining read_step
-            contents
-            grows settings (path_separator_of options) facts_of system run.first.hyperlinks run-for.matcher trusted run.first.printer before inputs
-            searched.total.has_match reader searched.mid run.last now finished in
-            inr (record {
-              accepted = run.accepted;
-              matcher = run-for.matcher;
-              is_matcher = run-for.is_matcher;
-              groups = run-for.groups;
-              template = run-for.template;
-              is_template = run-for.is_template;
-              separators = run.begins.separators;
-              are_separators = run.begins.lent;
-              colors = run.begins.chosen;
-              are_colors = run.begins.colored;
-              hyperlinks = run.first.hyperlinks;
-              are_hyperlinks = run.begins.hyperlinks;
-              printer = run.first.printer;
-              is_printer = run.begins.printer;
-              scope = run.scope;
-              is_scope = run.is_scope;
-              named = run.choices;
-              are_named = run.are_choices;
-              choices = run.run.left;
-              are_choices = run.run.same;
-              inputs = inputs;
-              are_searched = subst
-                  (λ r. AreSearched folders finds opens identifies run.scope IsFile IsReader run.run.left
-                  (paths_of options) input inputs r) (sym (run.input_after ∙ done.reads)) are;
-              findings = done.findings;
-              texts = done.texts;
-              totals = done.totals;
-              are_totals = done.are_totals;
-              written = ap contents run.writer_after ∙ done.holds;
-              status_is = is ∙ ((good-status run.scope searched.total unquiet is-well).1
-                  ∙ ap (λ found. if found then 0 else 1) (sym done.found_is));
-            })
-
-        failed : (error : Error) → searched.total.failure ≡ Some error → Failed error searched.mid
-        failed error is =
-            subst (λ f. Ends Step (λ engine. has_failed engine.printer) Sound Cut f searched.mid) is mid-ended
-
-        unfailed : searched.total.failure ≡ None → Sound searched.mid
-        unfailed none =
-            subst (λ f. Ends Step (λ engine. has_failed engine.printer) Sound Cut f searched.mid) none mid-ended
-
-        by : (ended : ℕ)
-            → IsRunEnd Step (λ engine. has_failed engine.printer) run.scope searched.total searched.mid ended run.last
-            → status ≡ ended → Written
-        by _ (of_failure error is_error failing) is = inl (closed error searched.mid (failed error is_error)
-            (subst (λ s. IsFailing Step (λ engine. has_failed engine.printer) run.scope error searched.mid s run.last)
-            (sym is) failing))
-        by _ (of_end none finished) is = ended-well none is finished
-        by _ (of_unwritten {mid = mid} error none finishing failing) is = inl (closed error mid
-            (after mid error (unfailed none) finishing)
-            (subst (λ s. IsFailing Step (λ engine. has_failed engine.printer) run.scope error mid s run.last) (sym is)
-            failing))
-          where
-            after : (mid : PrintingEngine S F M R W X) (error : Error) → Sound searched.mid
-                → Step searched.mid (finishes (Err error)) mid → Failed error mid
-            after mid error sound finishing = elim
-                (finishes-after output facts first_at groups_at write_step file_remaining
-                remaining read_step contents grows settings (path_separator_of options) facts_of system run.first.hyperlinks run-for.matcher trusted
-                run.first.printer before searched.mid mid error sound finishing) [
-                  | inl still ↦ inl (finishes-sound output facts first_at groups_at write_step file_remaining remaining
-                      read_step
-                      contents grows settings
-                      (path_separator_of options) facts_of system run.first.hyperlinks run-for.matcher trusted run.first.printer before
-                      searched.mid mid (Err error) sound finishing still)
-                  | inr cut ↦ inr (inl cut)
-                ]
+        well : status_of run.scope is.total ≢ 2
+        well = subst (λ s. s ≢ 2) is.status_is other
 
     run-written : Written
-    run-written = begins run.run.failure refl run.run.run
-      where
-        begun-ends : Ends Step (λ engine. has_failed engine.printer) Sound Cut run.run.failure run.run.begun
-        begun-ends = all-said folders finds opens identifies Step
-            (λ engine. has_failed engine.printer) run.scope searches reads_input
-            Sound Cut keep run.first _ run.run.failure run.run.begun run.run.said sound-first
-
-        begins : (failure : Option Error) → run.run.failure ≡ failure
-            → MatchOption failure (AreOperandsSearched folders finds opens identifies Step
-            (λ engine. has_failed engine.printer) run.scope run.run.left
-            (paths_of options) run.run.begun status run.last)
-            (λ error. IsFailing Step
-            (λ engine. has_failed engine.printer) run.scope error run.run.begun status run.last)
-            → Written
-        begins None none searched = ran run.run.begun
-            (said-all folders finds opens identifies Step
-            (λ engine. has_failed engine.printer) run.scope IsFile IsReader At
-            kept unquiet searches reads_input false [] false input run.first _ run.run.failure run.run.begun run.run.said none
-            at-first)
-            (subst (λ f. Ends Step (λ engine. has_failed engine.printer) Sound Cut f run.run.begun) none begun-ends)
-            searched
-        begins (Some error) is failing = inl (closed error run.run.begun
-            (subst (λ f. Ends Step
-            (λ engine. has_failed engine.printer) Sound Cut f run.run.begun) is begun-ends) failing)
+    run-written = elim (run-ended folders finds opens identifies Step (λ engine. has_failed engine.printer) run.scope
+        Sound Cut keep is-unfailed finishing run.choices (paths_of options) run.first status run.last other run.run
+        sound-first) [
+          | inl (error, broken, cut) ↦ inl (
+            error,
+            broken,
+            subst (HasFailedWith write_step error) (sym run.writer_after)
+                cut,
+          )
+          | inr is ↦ whole is
+        ]
 
 -- a whole run
 module _ {S F R W X : Type 0} (output : AllocError → Option (List ℕ)) (contents : W → Option (List ℕ))
@@ -431,45 +338,52 @@ module _ {S F R W X : Type 0} (output : AllocError → Option (List ℕ)) (conte
         by-answer options text (inr (none, types, list)) same answer
     by-options options said (of_refusal mid failure none caused refusal) =
         absurd (other refusal.refused.status_is)
-    by-options options said (OfSearch patterns mid none types together are (inl refused)) =
+    by-options options said (OfListing none types together lists (inl refused)) =
         absurd (other refused.refused.status_is)
-    by-options options said (OfSearch patterns mid none types together are (inr whole)) =
-        by (has options Quiet) (has options Files) refl refl
+    by-options options said (OfListing none types together lists (inr listing)) = by (has options Quiet) refl
       where
-        Found : Type 0
-        Found = HasEnded contents before file_remaining remaining read_step own-folders finds opens identifies options input
-            status input' writer'
+        listed : (has options Quiet ≡ false → HasListed contents before file_remaining remaining read_step own-folders
+            finds opens identifies options status writer') → Ended options
+        listed found = inr (of_listing none types together lists listing.unread found)
 
-        searched : (WritesFound options
+        by : (quiet : Bool) → has options Quiet ≡ quiet → Ended options
+        by true is = listed (λ loud. absurd (true≢false (sym is ∙ loud)))
+        by false loud = elim (listing-written contents write_step file_remaining remaining read_step facts_of system finds
+            opens identifies grows before options input writer said status input' writer' held other loud lists listing) [
+              | inl unread ↦ inl unread
+              | inr found ↦ listed (λ loud. found)
+            ]
+    by-options options said (OfSearch patterns mid none types together searching are (inl refused)) =
+        absurd (other refused.refused.status_is)
+    by-options options said (OfSearch patterns mid none types together searching are (inr whole)) =
+        by (has options Quiet) refl
+      where
+        searched : (has options Quiet ≡ false
             → HasWritten contents before file_remaining remaining read_step own-folders finds opens identifies {M = Literal}
             literal_facts literal_first_at literal_groups_at options whole.regex mid status input' writer'
             ⊎ HasWritten contents before file_remaining remaining read_step own-folders finds opens identifies
             {M = Named (naming_of whole.regex)} named_facts named_first_at named_groups_at options whole.regex mid
             status input' writer')
             → Ended options
-        searched found = inr (of_search patterns mid whole.regex none types together are whole.has_options
+        searched found = inr (of_search patterns mid whole.regex none types together searching are whole.has_options
             whole.has_patterns found)
 
-        by : (quiet files : Bool) → has options Quiet ≡ quiet → has options Files ≡ files → Ended options
-        by true files is are = searched (λ writes. absurd (true≢false (sym is ∙ writes.quiet)))
-        by false true is are = searched (λ writes. absurd (true≢false (sym are ∙ writes.files)))
-        by false false is are = writing (record { quiet = is; files = are })
-          where
-            writing : WritesFound options → Ended options
-            writing writes = elim whole.run [
-              | inl literal ↦ elim (run-written output contents write_step say_step file_remaining remaining read_step
-                  facts_of system finds opens identifies grows before options _ _ _ whole.regex mid writer said status input'
-                  writer' held other writes literal) [
-                    | inl unread ↦ inl unread
-                    | inr found ↦ searched (λ writes. inl found)
-                  ]
-              | inr named ↦ elim (run-written output contents write_step say_step file_remaining remaining read_step
-                  facts_of system finds opens identifies grows before options _ _ _ whole.regex mid writer said status input'
-                  writer' held other writes named) [
-                    | inl unread ↦ inl unread
-                    | inr found ↦ searched (λ writes. inr found)
-                  ]
-            ]
+        by : (quiet : Bool) → has options Quiet ≡ quiet → Ended options
+        by true is = searched (λ loud. absurd (true≢false (sym is ∙ loud)))
+        by false loud = elim whole.run [
+          | inl literal ↦ elim (run-written output contents write_step say_step file_remaining remaining read_step
+              facts_of system finds opens identifies grows before options _ _ _ whole.regex mid writer said status input'
+              writer' held other loud searching literal) [
+                | inl unread ↦ inl unread
+                | inr found ↦ searched (λ loud. inl found)
+              ]
+          | inr named ↦ elim (run-written output contents write_step say_step file_remaining remaining read_step
+              facts_of system finds opens identifies grows before options _ _ _ whole.regex mid writer said status input'
+              writer' held other loud searching named) [
+                | inl unread ↦ inl unread
+                | inr found ↦ searched (λ loud. inr found)
+              ]
+        ]
 
     by-words : IsProgramRun output write_step say_step file_remaining remaining read_step facts_of system finds opens identifies
         arguments streams input writer errors status input' writer' errors'

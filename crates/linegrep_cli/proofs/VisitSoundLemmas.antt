@@ -14,7 +14,7 @@ use Rattle.grep_printer.specs.declared.printed_search.Searched.{Searched}
 use Rattle.grep_searcher.specs.declared.SearchError.{SearchError}
 use Rattle.grep_searcher.specs.declared.SearchError.TheVariants.{Io}
 use Rattle.linegrep_cli.proofs.SearchTextLemmas.{not-both, one-error}
-use Rattle.linegrep_cli.specs.EngineCalls.{EngineCall, says, searches_file, searches_input, sets_quits}
+use Rattle.linegrep_cli.specs.EngineCalls.{EngineCall, lists, says, searches_file, searches_input, sets_quits}
 use Rattle.linegrep_cli.specs.EngineSteps.{IsWrittenError}
 use Rattle.linegrep_cli.specs.OperandRuns.{AreAllVisited, AreEntriesVisited, AreVisited, AreWritten, EndsAs, IsEnded}
 use Rattle.linegrep_cli.specs.OperandRuns.{IsEntryVisited, IsFolderVisited, IsHereVisited}
@@ -24,7 +24,7 @@ use Rattle.linegrep_cli.specs.OperandRuns.{no_visit, none_waiting, of_found_all,
 use Rattle.linegrep_cli.specs.OperandRuns.{of_standard_input, of_unfound_all, of_unsearched}
 use Rattle.linegrep_cli.specs.declared.late.Waiting.{Waiting}
 use Rattle.linegrep_files.specs.Orders.{is_late}
-use Rattle.linegrep_cli.specs.OperandRuns.{IsInputVisited}
+use Rattle.linegrep_cli.specs.OperandRuns.{IsInputVisited, IsListed}
 use Rattle.linegrep_cli.specs.OperandRuns.{IsNamedVisited, IsOperandVisited, IsPathVisited, IsReported, IsSaid}
 use Rattle.linegrep_cli.specs.OperandRuns.{ends_with_match, error_of, is_escaped, is_input, is_over, last_text}
 use Rattle.linegrep_cli.specs.OperandRuns.{next_entry, next_operand, next_text, no_entry, no_operand, no_text, of_file}
@@ -74,6 +74,8 @@ module _ {E F : Type 0} (step : E → EngineCall F → E → Type 0) (has_failed
         → step old (searches_file path file searched) new → Sound old → IsSearchedSoundly searched new
     pub input : (old new : E) (path : Option (Bor (List ℕ))) (searched : Searched)
         → step old (searches_input path searched) new → Sound old → IsSearchedSoundly searched new
+    pub list : (old new : E) (path : Bor (List ℕ)) (searched : Searched)
+        → step old (lists path searched) new → Sound old → IsSearchedSoundly searched new
     pub text : (old new : E) (said : Result (Unit {0}) Error) → step old (says said) new → Sound old
         → MatchResult said (λ _. Sound new) (λ error. Cut error new)
     pub quits : (old new : E) (quits : Bool) → step old (sets_quits quits) new → Sound old → Sound new
@@ -88,8 +90,7 @@ module _ {E F : Type 0} (step : E → EngineCall F → E → Type 0) (has_failed
 module _ {E F : Type 0} (folders : FolderFacts) (finds : List ℕ → Result Bool Error → Type 0)
     (opens : List ℕ → Result F Error → Type 0) (identifies : F → Option FileId → Type 0)
     (step : E → EngineCall F → E → Type 0) (has_failed : E → Bool) (scope : Scope)
-    (searches : scope.lists_files ≡ false) (reads : scope.lists_input ≡ false) (Sound : E → Type 0)
-    (Cut : Error → E → Type 0)
+    (Sound : E → Type 0) (Cut : Error → E → Type 0)
     (keep : CallsKeep step has_failed Sound Cut) where
   abbrev HasEnded : Option Error → E → Type 0
   HasEnded = Ends step has_failed Sound Cut
@@ -155,13 +156,15 @@ module _ {E F : Type 0} (folders : FolderFacts) (finds : List ℕ → Result Boo
           (subst (Cut cause) (sym same) cut)))))
           (λ unfailed (unread, is_said). said mid visit.failure new is_said (after.sound unfailed)) kept
 
-  listed : {T : Type 0} → scope.lists_files ≡ true → T
-  listed is = absurd (true≢false (sym is ∙ searches))
+  listed : (path : Bor (List ℕ)) (old : E) (visit : Visit) (new : E)
+      → IsListed step has_failed scope path old visit new → Sound old → HasEnded visit.failure new
+  listed path old visit new (searched, mid, listing, after) sound =
+      ended mid searched visit new after.ended (keep.list old mid path searched listing sound)
 
   input-visited : (old : E) (visit : Visit) (new : E) → IsInputVisited step has_failed scope old visit new
       → Sound old → HasEnded visit.failure new
   input-visited old visit new visited sound = either scope.lists_input
-      (λ is_listing is. absurd (true≢false (sym is_listing ∙ reads)))
+      (λ is_listing (name, is_name, is). listed name old visit new is sound)
       (λ is_listing is. either scope.leaves_out_input (λ out is_reported. reported old visit new is_reported sound)
       (λ out (name, is_name, searched, mid, searching, after).
       ended mid searched visit new after.ended (keep.input old mid _ searched searching sound))
@@ -180,7 +183,8 @@ module _ {E F : Type 0} (folders : FolderFacts) (finds : List ℕ → Result Boo
       → HasEnded visit.failure new
   entry-visited old _ visit new (of_path path is searching visited) sound =
       path-visited path old visit new visited sound
-  entry-visited old _ visit new (of_listed path is is_listing visited) sound = listed is_listing
+  entry-visited old _ visit new (of_listed path is is_listing visited) sound =
+      listed path old visit new visited sound
   entry-visited old _ visit new (of_unread is) sound = reported old visit new is sound
   entry-visited old _ visit new (of_entered inside (failure, are_said, is)) sound =
       by-failure visit.failure failure new (ap (λ (v : Visit). v.failure) is)
@@ -244,8 +248,10 @@ module _ {E F : Type 0} (folders : FolderFacts) (finds : List ℕ → Result Boo
       path-visited path old visit new visited sound
   named-visited choices path old visit new (of_unfound error found searching visited) sound =
       path-visited path old visit new visited sound
-  named-visited choices path old visit new (of_listing found is_listing visited) sound = listed is_listing
-  named-visited choices path old visit new (of_missing error found is_listing is) sound = listed is_listing
+  named-visited choices path old visit new (of_listing found is_listing visited) sound =
+      listed path old visit new visited sound
+  named-visited choices path old visit new (of_missing error found is_listing is) sound =
+      reported old visit new is sound
 
   operand-visited : (choices : Choices) (path : Bor (List ℕ)) (old : E) (visit : Visit) (new : E)
       → IsOperandVisited folders finds opens identifies step has_failed scope choices path old visit new
@@ -282,7 +288,7 @@ module _ {E F : Type 0} (folders : FolderFacts) (finds : List ℕ → Result Boo
       quits-set visit.failure last new ends
       (path-visited path first visit last visited (keep.quits old first quits begins sound))
   waiting-visited waiting old visit new (of_unsearched quits path target is is_listing visited) sound =
-      listed is_listing
+      listed path old visit new visited sound
 
   all-waiting-visited : (old : E) (done : List Waiting) (total : Visit) (new : E)
       → AreWaitingVisited opens identifies step has_failed scope old done total new → Sound old

@@ -52,7 +52,7 @@ pub or-none : (found : Bool) → (found || false) ≡ found
 or-none true = refl
 or-none false = refl
 
-or-assoc : (a b c : Bool) → ((a || b) || c) ≡ (a || (b || c))
+pub or-assoc : (a b c : Bool) → ((a || b) || c) ≡ (a || (b || c))
 or-assoc true b c = refl
 or-assoc false b c = refl
 

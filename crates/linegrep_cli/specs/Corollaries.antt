@@ -40,7 +40,7 @@ use Rattle.linegrep_options.specs.declared.option_id.OptionId.TheVariants.{Conte
 use Rattle.linegrep_options.specs.declared.option_id.OptionId.TheVariants.{CountMatches, Crlf}
 use Rattle.linegrep_options.specs.declared.option_id.OptionId.TheVariants.{FieldContextSeparator}
 use Rattle.linegrep_options.specs.declared.option_id.OptionId.TheVariants.{FieldMatchSeparator}
-use Rattle.linegrep_options.specs.declared.option_id.OptionId.TheVariants.{Files, FilesWithMatches}
+use Rattle.linegrep_options.specs.declared.option_id.OptionId.TheVariants.{FilesWithMatches}
 use Rattle.linegrep_options.specs.declared.option_id.OptionId.TheVariants.{FilesWithoutMatch}
 use Rattle.linegrep_options.specs.declared.option_id.OptionId.TheVariants.{Heading, IncludeZero}
 use Rattle.linegrep_options.specs.declared.option_id.OptionId.TheVariants.{InvertMatch, Json}
@@ -60,7 +60,7 @@ use Rattle.linegrep_options.specs.declared.uses.Use.{Use}
 -- pattern means, which files are searched, or what is said of them on standard error.
 abbrev pub changing_options : List OptionId
 changing_options = Quiet ∷ Count ∷ CountMatches ∷ IncludeZero ∷ FilesWithMatches
-    ∷ FilesWithoutMatch ∷ Files ∷ Json ∷ Vimgrep ∷ OnlyMatching ∷ Replace ∷ InvertMatch ∷ Multiline
+    ∷ FilesWithoutMatch ∷ Json ∷ Vimgrep ∷ OnlyMatching ∷ Replace ∷ InvertMatch ∷ Multiline
     ∷ StopOnNonmatch ∷ MaxCount ∷ Crlf ∷ NullData ∷ Passthru ∷ AfterContext ∷ BeforeContext
     ∷ Context ∷ ContextSeparator ∷ NoContextSeparator ∷ FieldMatchSeparator ∷ FieldContextSeparator
     ∷ LineNumber ∷ NoLineNumber ∷ Column ∷ ByteOffset ∷ WithFilename ∷ Null ∷ Heading ∷ Pretty

@@ -8,9 +8,12 @@ pub mod CountedRuns
 pub mod EngineCalls
 pub mod EngineSteps
 pub mod FileChoices
+pub mod FoundFiles
 pub mod Haystacks
 pub mod HyperlinkOptions
 pub mod JsonRuns
+pub mod ListedFiles
+pub mod Listings
 pub mod NamedPatterns
 pub mod OperandRuns
 pub mod OperandTexts

@@ -11,7 +11,7 @@ use Rattle.grep_regex.specs.Patterns.{default_options}
 use Rattle.grep_regex.specs.declared.options.Options.{Options as PatternSettings}
 use Rattle.linegrep_cli.specs.OptionUses.{has}
 use Rattle.linegrep_cli.specs.SearcherOptions.{terminator_of}
-use Rattle.linegrep_options.specs.declared.option_id.OptionId.TheVariants.{Crlf, Files}
+use Rattle.linegrep_options.specs.declared.option_id.OptionId.TheVariants.{Crlf}
 use Rattle.linegrep_options.specs.declared.option_id.OptionId.TheVariants.{FixedStrings}
 use Rattle.linegrep_options.specs.declared.option_id.OptionId.TheVariants.{IgnoreCase, LineRegexp}
 use Rattle.linegrep_options.specs.declared.option_id.OptionId.TheVariants.{Multiline}
@@ -63,8 +63,8 @@ refuses_size_limits options =
 
 -- the options of the patterns. `^` and `$` match at the ends of lines, and no match has the end of
 -- a line in it, unless matches may run over several lines. What no option sets has its default
-abbrev pub searched_options : Options → List (String Global) → PatternSettings
-searched_options options patterns = record default_options {
+abbrev pub pattern_options : Options → List (String Global) → PatternSettings
+pattern_options options patterns = record default_options {
   case_insensitive = ignores_case options patterns;
   fixed_strings = has options FixedStrings;
   word = has options WordRegexp;
@@ -76,12 +76,6 @@ searched_options options patterns = record default_options {
   line_terminator = if has options Multiline then None else Some (terminator_of options);
   size_limit = size_limit_of options;
 }
-
--- the options with which patterns are compiled. If files are listed, those of the literal that is
--- searched for each path
-abbrev pub pattern_options : Options → List (String Global) → PatternSettings
-pattern_options options patterns =
-    if has options Files then default_options else searched_options options patterns
 
 -- a template may name groups of the patterns, which aren't literals
 abbrev pub has_dollar : Option (Bor (List ℕ)) → Bool
@@ -107,5 +101,4 @@ searched_texts options texts = if nat_lt 1 (length texts) && names_groups option
     then joined_text texts ∷ [] else texts
 
 abbrev pub pattern_texts : Options → List (String Global) → List (List ℕ)
-pattern_texts options patterns =
-    if has options Files then codes "x" ∷ [] else searched_texts options (map string_bytes patterns)
+pattern_texts options patterns = searched_texts options (map string_bytes patterns)

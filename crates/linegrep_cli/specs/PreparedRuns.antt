@@ -8,7 +8,7 @@ use Rattle.linegrep_cli.specs.PathSeparators.{path_separator_of}
 use Rattle.linegrep_cli.specs.SearcherOptions.{searcher_settings}
 use Rattle.linegrep_cli.specs.SeparatorOptions.{IsSeparators}
 use Rattle.linegrep_cli.specs.declared.options.Options.{Options}
-use Rattle.linegrep_cli.specs.declared.search.Layout.{Layout}
+use Rattle.linegrep_cli.specs.declared.prepared.Layout.{Layout}
 use Rattle.linegrep_cli.specs.declared.search.Prepared.{Prepared}
 use Rattle.linegrep_files.specs.FolderFacts.{FolderFacts}
 

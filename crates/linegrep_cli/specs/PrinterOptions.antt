@@ -31,7 +31,7 @@ use Rattle.linegrep_options.specs.declared.option_id.OptionId.TheVariants.{Block
 use Rattle.linegrep_options.specs.declared.option_id.OptionId.TheVariants.{ByteOffset}
 use Rattle.linegrep_options.specs.declared.option_id.OptionId.TheVariants.{Color, Count}
 use Rattle.linegrep_options.specs.declared.option_id.OptionId.TheVariants.{CountMatches}
-use Rattle.linegrep_options.specs.declared.option_id.OptionId.TheVariants.{Files, FilesWithMatches}
+use Rattle.linegrep_options.specs.declared.option_id.OptionId.TheVariants.{FilesWithMatches}
 use Rattle.linegrep_options.specs.declared.option_id.OptionId.TheVariants.{FilesWithoutMatch}
 use Rattle.linegrep_options.specs.declared.option_id.OptionId.TheVariants.{Heading}
 use Rattle.linegrep_options.specs.declared.option_id.OptionId.TheVariants.{IncludeZero, InvertMatch}
@@ -65,12 +65,10 @@ counts_matches options is_across = not (has options InvertMatch) && (has options
 -- the paths of files are written, and nothing else of them
 abbrev pub is_summary_of_paths : Options → Bool
 is_summary_of_paths options = has options FilesWithMatches || has options FilesWithoutMatch
-    || has options Files
 
--- all that is found is counted, to say at the end how much it was. It isn't if files are listed, or
--- if messages say it
+-- all that is found is counted, to say at the end how much it was. It isn't if messages say it
 abbrev pub counts_all : Options → Bool
-counts_all options = has options Stats && not (has options Files) && not (has options Json)
+counts_all options = has options Stats && not (has options Json)
 
 -- something is written in place of lines, or nothing
 abbrev pub is_summary : Options → Bool
@@ -79,7 +77,6 @@ is_summary options = has options Quiet || counts options || is_summary_of_paths 
 -- what is written in place of lines, if something is, in a search by line or across lines
 abbrev pub summary_kind : Options → Bool → Option SummaryKind
 summary_kind options is_across = if has options Quiet then Some silent
-    else if has options Files then Some PathWithMatch
     else if counts_matches options is_across then Some parts
     else if counts options then Some lines
     else if has options FilesWithMatches then Some PathWithMatch

@@ -1,6 +1,6 @@
 -- What the engine of a searcher, a matcher and a printer does in each call, and writes.
-use Rattle.std.specs.Prelude.{◌≡◌, ◌⊎◌, ◌∷◌, ◌++◌, MatchResult, ℕ, Bool, false, true, if◌then◌else◌}
-use Rattle.std.specs.Prelude.{List, [], Option, None, Some, is_some, Result, Ok, Err}
+use Rattle.std.specs.Prelude.{◌≡◌, ◌⊎◌, ℕ, Bool, false, true, if◌then◌else◌}
+use Rattle.std.specs.Prelude.{List, Option, None, Some, is_some, Result, Ok, Err}
 use Rattle.std.specs.Borrow.{Bor}
 use Rattle.std.specs.Global.{Global}
 use Rattle.std.specs.IoError.{error_kind}
@@ -30,10 +30,6 @@ use Rattle.linegrep_files.specs.FolderFacts.{FolderFacts}
 abbrev pub detection_with : Bool → BinaryDetection → BinaryDetection
 detection_with quits (Convert byte) = if quits then Quit byte else Convert byte
 detection_with quits detection = detection
-
--- what a read of a text gives
-abbrev pub IsLineRead : Bor (List ℕ) → ReadResult → Bor (List ℕ) → Type 0
-IsLineRead old result new = MatchResult result (λ bytes. old.now ≡ bytes ++ new.now) (λ e. ⊥)
 
 -- nothing was searched, since there is no memory
 abbrev pub IsUnsearched : Searched → Type 0
@@ -82,23 +78,6 @@ module _ {S F M R W X E : Type 0} (output : E → Option (List ℕ)) (facts : M 
       haystack = record { file = None; reader = left.reader };
     }
 
-  -- a path is written as the path of a file with a match. For that a line is searched which always
-  -- matches
-  pub record IsPathWritten (old : PrintingEngine S F M R W X) (path : Option PrinterPath)
-      (searched : Searched) (new : PrintingEngine S F M R W X) : Type 0 where
-    pub line : Bor (List ℕ)
-    pub left : Bor (List ℕ)
-    pub is_line : line.now ≡ 120 ∷ 10 ∷ []
-    pub written : IsSearchWritten output facts first_at groups_at write_step (λ s. Some s.now)
-        IsLineRead old.searcher old.matcher path line
-        old.writer old.printer searched left new.writer new.printer
-    pub settings : new.searcher.settings ≡ old.searcher.settings
-    pub others : new ≡ record old {
-      searcher = new.searcher;
-      printer = new.printer;
-      writer = new.writer;
-    }
-
   -- before a text on standard error, what was found so far is written
   pub record IsSaidAfter (old : PrintingEngine S F M R W X) (result : Result (Unit {0}) Error)
       (new : PrintingEngine S F M R W X) : Type 0 where
@@ -117,15 +96,14 @@ module _ {S F M R W X E : Type 0} (output : E → Option (List ℕ)) (facts : M 
     pub is_result : IsWrittenResult ended result
     pub others : new ≡ record old { printer = new.printer; writer = new.writer }
 
-  -- what one call does, by what a system may say. Standard input has no link
+  -- what one call does, by what a system may say. Standard input has no link, and no file is listed
   abbrev pub IsEngineStep : (S → FolderFacts) → PrintingEngine S F M R W X → EngineCall F
       → PrintingEngine S F M R W X → Type 0
   IsEngineStep facts_of old (searches_file path file searched) new =
       IsDoneShown facts_of old.hyperlinks (IsSearched (Some file)) path old searched new
   IsEngineStep facts_of old (searches_input path searched) new =
       IsDoneShown facts_of None (IsSearched None) path old searched new
-  IsEngineStep facts_of old (lists path searched) new =
-      IsDoneShown facts_of old.hyperlinks IsPathWritten (Some path) old searched new
+  IsEngineStep facts_of old (lists path searched) new = new ≡ old
   IsEngineStep facts_of old (says result) new = IsSaidAfter old result new
   IsEngineStep facts_of old (sets_quits quits) new = new ≡ record old {
     searcher = record old.searcher {

@@ -1,7 +1,7 @@
 -- What the program does, by its arguments.
 use Rattle.std.specs.Prelude.{◌≡◌, ◌≢◌, ◌⊎◌, ℕ, Bool, true, false, not, ◌&&◌, ◌||◌, if◌then◌else◌}
 use Rattle.std.specs.Prelude.{List, []}
-use Rattle.std.specs.Prelude.{length, map, nat_lt, MatchBool, Option, None, Some, Result, Ok, Err}
+use Rattle.std.specs.Prelude.{length, map, nat_lt, Option, None, Some, Result, Ok, Err}
 use Rattle.std.specs.Prelude.{String}
 use Rattle.std.specs.Prelude.{string_bytes, Vec}
 use Rattle.std.specs.Borrow.{Bor}
@@ -31,7 +31,8 @@ use Rattle.linegrep_cli.specs.OperandTexts.{operand_texts}
 use Rattle.linegrep_cli.specs.OptionMeanings.{paths_of}
 use Rattle.linegrep_cli.specs.OptionUses.{has}
 use Rattle.linegrep_cli.specs.OptionValues.{AreLists, AreOptions, names_input}
-use Rattle.linegrep_cli.specs.Refusals.{IsRefusedFor, IsSaid}
+use Rattle.linegrep_cli.specs.Listings.{IsListingRun}
+use Rattle.linegrep_cli.specs.Refusals.{IsCause, IsCauseForFiles, IsRefusedFor, IsSaid}
 use Rattle.linegrep_cli.specs.WholeRuns.{IsRefused, IsWholeRun}
 use Rattle.linegrep_cli.specs.declared.lists.Lists.{Lists}
 use Rattle.linegrep_cli.specs.declared.options.Options.{Options}
@@ -92,23 +93,18 @@ pub record IsRefusal {R W X : Type 0} (say_step : X → OutputCall → X → Typ
   pub refused : IsRefused input writer status input' writer'
   pub said : IsSaid say_step (text_of failure) errors errors'
 
-module _ {R : Type 0} (remaining : R → Option (List ℕ)) (read_step : R → ReadResult → R → Type 0)
-    (folders : FolderFacts) where
-  -- the patterns that are searched for. If files are listed, there are none
-  abbrev pub ArePatternsFor : Options → R → List (List ℕ) → R → Type 0
-  ArePatternsFor options input patterns input' = MatchBool (has options Files)
-      ((patterns ≡ []) × (input' ≡ input))
-      (ArePatterns remaining read_step folders.reads options input patterns input')
-
-  -- why options are refused before anything is searched for: they ask for the list of types, and a
-  -- definition of a type isn't well formed; they don't go together; or there is no pattern
-  pub data AreRefused (options : Options) (input : R) : R → Type 0 where
-    of_definition : has options TypeList ≡ true → HaveMalformed options.types
-        → AreRefused options input input
-    of_contraries : exclude_each_other options ≡ true → AreRefused options input input
-    of_patterns : {input' : R} → has options Files ≡ false
-        → LackPatterns remaining read_step folders.reads options input input'
-        → AreRefused options input input'
+-- why options are refused before anything is searched or listed: they ask for the list of types,
+-- and a definition of a type isn't well formed; they don't go together; or there is no pattern
+pub data AreRefused {R : Type 0} (remaining : R → Option (List ℕ))
+    (read_step : R → ReadResult → R → Type 0) (folders : FolderFacts) (options : Options)
+    (input : R) : R → Type 0 where
+  of_definition : has options TypeList ≡ true → HaveMalformed options.types
+      → AreRefused remaining read_step folders options input input
+  of_contraries : exclude_each_other options ≡ true
+      → AreRefused remaining read_step folders options input input
+  of_patterns : {input' : R} → has options Files ≡ false
+      → LackPatterns remaining read_step folders.reads options input input'
+      → AreRefused remaining read_step folders options input input'
 
 module _ {S F R W X : Type 0} (output : AllocError → Option (List ℕ))
     (write_step : W → OutputCall → W → Type 0) (say_step : X → OutputCall → X → Type 0)
@@ -117,8 +113,8 @@ module _ {S F R W X : Type 0} (output : AllocError → Option (List ℕ))
     (finds : List ℕ → Result Bool Error → Type 0) (opens : List ℕ → Result F Error → Type 0)
     (identifies : F → Option FileId → Type 0) where
   -- what the program does by its options. A text that is asked for is written; otherwise the list
-  -- of types, if that is asked for; otherwise the patterns are searched for, or the run is refused.
-  -- If memory is out, nothing is written
+  -- of types, if that is asked for; otherwise files are listed, if that is asked for, or the
+  -- patterns are searched for, or the run is refused. If memory is out, nothing is written
   pub data IsOptionsRun (options : Options) (input : R) (writer : W) (errors : X)
       : ℕ → R → W → X → Type 0 where
     without_memory : {status : ℕ} {input' : R} {writer' : W} {errors' : X} (failure : Failure)
@@ -138,14 +134,22 @@ module _ {S F R W X : Type 0} (output : AllocError → Option (List ℕ))
         → AreRefused remaining read_step (facts_of system) options input mid)
         → IsRefusal say_step mid writer errors failure status input' writer' errors'
         → IsOptionsRun options input writer errors status input' writer' errors'
+    of_listing : {status : ℕ} {input' : R} {writer' : W} {errors' : X}
+        → text_asked options ≡ None → has options TypeList ≡ false
+        → exclude_each_other options ≡ false → has options Files ≡ true
+        → IsRefusedFor say_step (IsCauseForFiles (facts_of system) options) input writer errors
+        status input' writer' errors'
+        ⊎ IsListingRun write_step facts_of system finds opens identifies options input writer
+        errors status input' writer'
+        → IsOptionsRun options input writer errors status input' writer' errors'
     of_search : {status : ℕ} {input' : R} {writer' : W} {errors' : X}
         (patterns : List (String Global)) (mid : R)
         → text_asked options ≡ None → has options TypeList ≡ false
-        → exclude_each_other options ≡ false
-        → ArePatternsFor remaining read_step (facts_of system) options input
+        → exclude_each_other options ≡ false → has options Files ≡ false
+        → ArePatterns remaining read_step (facts_of system).reads options input
         (map string_bytes patterns) mid
-        → IsRefusedFor say_step (facts_of system) options patterns mid writer errors status input'
-        writer' errors'
+        → IsRefusedFor say_step (IsCause (facts_of system) options patterns) mid writer errors
+        status input' writer' errors'
         ⊎ IsWholeRun output write_step file_remaining remaining read_step facts_of system finds
         opens identifies options patterns mid writer errors status input' writer'
         → IsOptionsRun options input writer errors status input' writer' errors'

@@ -33,20 +33,25 @@ pub data ArePatternsRefused (options : Options) (patterns : List (String Global)
       → IsRefusal (pattern_options options patterns) (map string_bytes patterns) error
       → ArePatternsRefused options patterns
 
--- why a run is refused: the label of an encoding isn't known; patterns are refused; a limit of
--- sizes isn't one; a separator isn't one byte; colors or the format of links aren't well formed;
--- the system doesn't have an order; or what is said of files is refused
+-- why a run is refused that needs files: a limit of sizes isn't one; a separator isn't one byte;
+-- colors or the format of links aren't well formed; the system doesn't have an order; or what is
+-- said of files is refused
+pub data IsCauseForFiles (folders : FolderFacts) (options : Options) : Type 0 where
+  of_size_limits : refuses_size_limits options ≡ true → IsCauseForFiles folders options
+  of_path_separator : refuses_path_separator options ≡ true → IsCauseForFiles folders options
+  of_colors : refuses_colors options ≡ true → IsCauseForFiles folders options
+  of_hyperlink_format : IsFormatRefused options → IsCauseForFiles folders options
+  of_order : LacksOrder folders.times (order_for options) → IsCauseForFiles folders options
+  of_files : (files : FileOptions) → AreFileOptions options files → AreFilesRefused files
+      → IsCauseForFiles folders options
+
+-- why a search is refused: as a run that needs files; or the label of an encoding isn't known, or
+-- patterns are refused
 pub data IsCause (folders : FolderFacts) (options : Options) (patterns : List (String Global))
     : Type 0 where
+  of_cause_for_files : IsCauseForFiles folders options → IsCause folders options patterns
   of_label : refuses_label options ≡ true → IsCause folders options patterns
   of_patterns : ArePatternsRefused options patterns → IsCause folders options patterns
-  of_size_limits : refuses_size_limits options ≡ true → IsCause folders options patterns
-  of_path_separator : refuses_path_separator options ≡ true → IsCause folders options patterns
-  of_colors : refuses_colors options ≡ true → IsCause folders options patterns
-  of_hyperlink_format : IsFormatRefused options → IsCause folders options patterns
-  of_order : LacksOrder folders.times (order_for options) → IsCause folders options patterns
-  of_files : (files : FileOptions) → AreFileOptions options files → AreFilesRefused files
-      → IsCause folders options patterns
 
 -- a text is said, and nothing else: it is written, or writing it fails
 abbrev pub IsSaid : {X : Type 0} → (X → OutputCall → X → Type 0) → List ℕ → X → X → Type 0
@@ -54,10 +59,10 @@ IsSaid say_step text old new = (written : Result (Unit {0}) Error)
     × Writes say_step old text written new
 
 -- a run is refused for a cause, or says that there is no memory
-pub record IsRefusedFor {R W X : Type 0} (say_step : X → OutputCall → X → Type 0)
-    (folders : FolderFacts) (options : Options) (patterns : List (String Global)) (input : R)
-    (writer : W) (errors : X) (status : ℕ) (input' : R) (writer' : W) (errors' : X) : Type 0 where
+pub record IsRefusedFor {R W X : Type 0} (say_step : X → OutputCall → X → Type 0) (Cause : Type 0)
+    (input : R) (writer : W) (errors : X) (status : ℕ) (input' : R) (writer' : W) (errors' : X)
+    : Type 0 where
   pub refused : IsRefused input writer status input' writer'
   pub failure : Failure
   pub said : IsSaid say_step (text_of failure) errors errors'
-  pub caused : has_cause failure ≡ true → IsCause folders options patterns
+  pub caused : has_cause failure ≡ true → Cause

@@ -10,11 +10,11 @@ use Rattle.std.specs.declared.io.Error.{Error}
 use Rattle.grep_searcher.specs.Searches.{Reads}
 use Rattle.grep_searcher.specs.Source.{ReadResult}
 use Rattle.grep_printer.specs.declared.hyperlinks.HyperlinkConfig.{HyperlinkConfig}
+use Rattle.linegrep_cli.specs.FoundFiles.{AreFoundSorted}
 use Rattle.linegrep_cli.specs.HyperlinkOptions.{IsPathShown}
 use Rattle.linegrep_cli.specs.OperandRuns.{IsLeftOut, is_bare, is_escaped}
 use Rattle.linegrep_cli.specs.OperandRuns.{is_input, path_of}
 use Rattle.linegrep_cli.specs.SearchTexts.{Input}
-use Rattle.linegrep_cli.specs.WaitingFiles.{AreInOrder, AreRanked, IsAt}
 use Rattle.linegrep_cli.specs.declared.late.Target.TheVariants.{File as FileTarget, StandardInput}
 use Rattle.linegrep_cli.specs.declared.late.Waiting.{Waiting}
 use Rattle.linegrep_cli.specs.declared.scope.Scope.{Scope}
@@ -130,49 +130,6 @@ module _ {F R : Type 0} (folders : FolderFacts) (finds : List ℕ → Result Boo
   AreSearchedInTurn choices (path ∷ later) reader inputs reader' =
       AreOfOperands choices reader (path ∷ later) inputs reader'
 
-  -- the files among the entries of a folder, as they are found
-  pub data AreFilesFound : List Entry → List Waiting → Type 0 where
-    no_file_found : AreFilesFound [] []
-    file_found : {entries : List Entry} {found : List Waiting} (text : String Global)
-        (waiting : Waiting) → AreFilesFound entries found
-        → IsAt (FileTarget (not scope.searches_binary)) (string_bytes text) waiting
-        → AreFilesFound (entries ++ File text ∷ []) (found ++ waiting ∷ [])
-    folder_found : {entries : List Entry} {found : List Waiting} (text : String Global)
-        → AreFilesFound entries found → AreFilesFound (entries ++ Folder text ∷ []) found
-
-  -- what is found in a folder: the files of the entries that are visited of it by choices, in the
-  -- order of paths
-  pub record AreFoundIn (choices : Choices) (folder : List ℕ) (found : List Waiting) : Type 0 where
-    pub entries : List Entry
-    pub all : AreAllOf folders scope.route choices folder entries
-    pub files : AreFilesFound entries found
-
-  -- what is found for an operand
-  pub data AreFoundAt (choices : Choices) (path : Bor (List ℕ)) : List Waiting → Type 0 where
-    of_found_input : (waiting : Waiting) → is_input path.now ≡ true
-        → IsAt StandardInput (codes "<stdin>") waiting → AreFoundAt choices path (waiting ∷ [])
-    of_found_file : (waiting : Waiting) → is_input path.now ≡ false → is_escaped path.now ≡ false
-        → finds path.now (Ok false) → IsAt (FileTarget false) path.now waiting
-        → AreFoundAt choices path (waiting ∷ [])
-    of_found_folder : {found : List Waiting} → is_input path.now ≡ false
-        → is_escaped path.now ≡ false → finds path.now (Ok true)
-        → AreFoundIn choices path.now found → AreFoundAt choices path found
-
-  -- what is found for operands, in their order
-  pub data AreFoundFor (choices : Choices) : List (Bor (List ℕ)) → List Waiting → Type 0 where
-    none_found : AreFoundFor choices [] []
-    next_found : {paths : List (Bor (List ℕ))} {found next : List Waiting} (path : Bor (List ℕ))
-        → AreFoundFor choices paths found → AreFoundAt choices path next
-        → AreFoundFor choices (paths ++ path ∷ []) (found ++ next)
-
-  -- what is found of all that is searched. Without an operand that is standard input, if options
-  -- say so, or else what is in the current folder
-  abbrev pub AreAllFound : Choices → List (Bor (List ℕ)) → List Waiting → Type 0
-  AreAllFound choices [] found = MatchBool scope.searches_input
-      ((waiting : Waiting) × IsAt StandardInput (codes "<stdin>") waiting × (found ≡ waiting ∷ []))
-      (AreFoundIn choices [] found)
-  AreAllFound choices (path ∷ later) found = AreFoundFor choices (path ∷ later) found
-
   -- what is searched of what waits, in its order
   pub data AreOfWaiting (reader : R) : List Waiting → List Input → R → Type 0 where
     none_waits : AreOfWaiting reader [] [] reader
@@ -186,17 +143,12 @@ module _ {F R : Type 0} (folders : FolderFacts) (finds : List ℕ → Result Boo
         → path.now ≡ string_bytes one.file.path → IsAtPath path quits input
         → AreOfWaiting reader (waiting ++ one ∷ []) (inputs ++ input ∷ []) mid
 
-  -- What a run searches that finds all of it first: that is sorted by the times that the system
-  -- says, or by its paths, the files of all operands together. In the current folder, which is
-  -- searched without an operand, there is a file to search.
+  -- What a run searches that finds all of it first. In the current folder, which is searched
+  -- without an operand, there is a file to search.
   pub record AreSearchedLate (choices : Choices) (paths : List (Bor (List ℕ))) (reader : R)
       (inputs : List Input) (reader' : R) : Type 0 where
-    pub found : List Waiting
-    pub all : AreAllFound choices paths found
-    pub ranked : List Waiting
-    pub are_ranked : AreRanked folders.times scope.order found ranked
     pub sorted : List Waiting
-    pub in_order : AreInOrder scope.order ranked sorted
+    pub are_sorted : AreFoundSorted folders finds scope choices paths sorted
     pub searched : AreOfWaiting reader sorted inputs reader'
     pub some : is_bare paths ≡ true → scope.searches_input ≡ false → 0 < length inputs
 

@@ -46,7 +46,7 @@ messages_of options = if has options NoMessages then Silent
 abbrev pub quiet_of : Options → Option QuietRun
 quiet_of options = if has options Quiet then Some (record {
   seeks_unmatched = has options FilesWithoutMatch && not (has options Files);
-  counts_all = counts_all options;
+  counts_all = counts_all options && not (has options Files);
 }) else None
 
 -- what options say of a run, by whether several files may be searched

@@ -17,7 +17,7 @@ use Rattle.grep_searcher.specs.declared.LineTerminator.TheVariants.{Byte}
 use Rattle.grep_searcher.specs.declared.LineTerminator.TheVariants.{Crlf as carriage_line_feed}
 use Rattle.linegrep_cli.specs.OptionMeanings.{after_lines, before_lines, shows_numbers}
 use Rattle.linegrep_cli.specs.OptionUses.{has, last_use}
-use Rattle.linegrep_options.specs.declared.option_id.OptionId.TheVariants.{Crlf, Encoding, Files}
+use Rattle.linegrep_options.specs.declared.option_id.OptionId.TheVariants.{Crlf, Encoding}
 use Rattle.linegrep_options.specs.declared.option_id.OptionId.TheVariants.{InvertMatch, Multiline}
 use Rattle.linegrep_options.specs.declared.option_id.OptionId.TheVariants.{NoBinary, NoText}
 use Rattle.linegrep_options.specs.declared.option_id.OptionId.TheVariants.{NullData}
@@ -72,9 +72,9 @@ abbrev pub IsLabelError : Option (Bor (List ℕ)) → ConfigError → Type 0
 IsLabelError None error = ⊥
 IsLabelError (Some label) error = IsUnknownEncoding label.now error ⊎ (error ≡ Memory)
 
--- the label of the encoding is refused. If files are listed, no label is looked at
+-- the label of the encoding is refused
 abbrev pub refuses_label : Options → Bool
-refuses_label options = not (has options Files) && is_unknown_label (label_of options)
+refuses_label options = is_unknown_label (label_of options)
 
 -- the settings of the searcher. What no option sets has its default
 abbrev pub asked_settings : Options → Settings
@@ -93,7 +93,6 @@ asked_settings options = record default_settings {
   max_matches = options.max_count;
 }
 
--- the settings of the searcher. If files are listed, each has its default
+-- the settings of the searcher
 abbrev pub searcher_settings : Options → Settings
-searcher_settings options =
-    if has options Files then default_settings else built (asked_settings options)
+searcher_settings options = built (asked_settings options)

@@ -1,7 +1,7 @@
 -- The theorem of a run: what is written to standard output, and the status, if nothing fails.
 use Rattle.std.specs.Prelude.{◌≡◌, ◌≢◌, ◌⊎◌, ℕ, Bool, false, if◌then◌else◌, List, ◌++◌}
 use Rattle.std.specs.Prelude.{Option, None, Some, Result, Ok, Err, String, Vec, map, string_bytes}
-use Rattle.std.specs.Prelude.{true}
+use Rattle.std.specs.Prelude.{length, nat_lt, true}
 use Rattle.std.specs.Borrow.{Bor}
 use Rattle.std.specs.Global.{Global}
 use Rattle.std.specs.IoError.{error_kind}
@@ -18,7 +18,7 @@ use Rattle.grep_replace.specs.declared.template.Template.{Template}
 use Rattle.grep_searcher.specs.Meanings.{MatcherFacts}
 use Rattle.grep_searcher.specs.Plans.{is_across}
 use Rattle.grep_searcher.specs.Source.{ReadResult}
-use Rattle.linegrep_cli.specs.AcceptedOptions.{AreAccepted}
+use Rattle.linegrep_cli.specs.AcceptedOptions.{AreAccepted, AreAcceptedForFiles}
 use Rattle.linegrep_cli.specs.ColorOptions.{AreColorsLent}
 use Rattle.linegrep_cli.specs.ConfigFiles.{AreWords}
 use Rattle.linegrep_cli.specs.FileChoices.{AreChoicesOf}
@@ -30,7 +30,10 @@ use Rattle.linegrep_cli.specs.OptionValues.{AreLists, AreOptions}
 use Rattle.linegrep_cli.specs.PathSeparators.{path_separator_of}
 use Rattle.linegrep_cli.specs.PatternOptions.{pattern_options, pattern_texts}
 use Rattle.linegrep_cli.specs.PrinterOptions.{IsPrinterOf}
-use Rattle.linegrep_cli.specs.ProgramRuns.{ArePatternsFor, exclude_each_other, text_asked}
+use Rattle.linegrep_cli.specs.ListedFiles.{AreListed, ArePathTexts}
+use Rattle.linegrep_cli.specs.Listings.{path_format_of}
+use Rattle.linegrep_cli.specs.NamedPatterns.{ArePatterns}
+use Rattle.linegrep_cli.specs.ProgramRuns.{exclude_each_other, text_asked}
 use Rattle.linegrep_cli.specs.RunInputs.{AreSearched, IsFileInput, IsReaderInput}
 use Rattle.linegrep_cli.specs.RunScopes.{IsScopeOf}
 use Rattle.linegrep_cli.specs.SearchTexts.{AreTextsFor, AreTotals, Findings, Input}
@@ -70,12 +73,6 @@ HasFailedWith {W} write_step error output = (before : W) × (call : OutputCall)
 abbrev pub IsClosed : {W : Type 0} → (W → OutputCall → W → Type 0) → W → Type 0
 IsClosed write_step output = (error : Error) × (error_kind error ≡ BrokenPipe)
     × HasFailedWith write_step error output
-
--- options write what is found: they ask neither for a status alone nor for the paths of files that
--- aren't searched
-pub record WritesFound (options : Options) : Type 0 where
-  pub quiet : has options Quiet ≡ false
-  pub files : has options Files ≡ false
 
 -- these are the options that arguments ask for, after those of a file of options
 pub record AreOptionsFor {X : Type 0} (say_step : X → OutputCall → X → Type 0)
@@ -150,19 +147,47 @@ module _ {F R W : Type 0} (contents : W → Option (List ℕ)) (before : List �
     pub written : contents writer' ≡ Some (before ++ (findings.text ++ totals))
     pub status_is : status ≡ (if findings.found then 0 else 1)
 
+  -- What a run has written that lists files: the paths of these, one after the other, in the order
+  -- in which they would be searched. Its status says whether there is one.
+  pub record HasListed (options : Options) (status : ℕ) (writer' : W) : Type 0 where
+    pub accepted : AreAcceptedForFiles folders options
+    pub colors : Option (Bor ColorTexts)
+    pub are_colors : AreColorsLent options colors
+    pub hyperlinks : Option (Bor HyperlinkConfig)
+    pub are_hyperlinks : AreHyperlinksLent folders options hyperlinks
+    pub scope : Scope
+    pub is_scope : IsScopeOf finds options scope
+    pub named : Choices
+    pub are_named : AreChoicesOf folders options named
+    pub choices : Choices
+    pub are_choices : SaysTheSame named choices
+    pub paths : List (List ℕ)
+    pub are_listed : AreListed folders finds scope choices (paths_of options) paths
+    pub text : List ℕ
+    pub are_texts : ArePathTexts folders (path_separator_of options) hyperlinks
+        (path_format_of options colors) paths text
+    pub written : contents writer' ≡ Some (before ++ text)
+    pub status_is : status ≡ (if nat_lt 0 (length paths) then 0 else 1)
+
   -- what a run does that neither fails nor is refused: it gives the answer that options ask for; or
-  -- else it searches, and has written what is found if options ask for that
+  -- else it lists files, or searches, and has written what it found, unless options ask for a
+  -- status alone
   pub data HasEnded (options : Options) (input : R) (status : ℕ) (input' : R) (writer' : W)
       : Type 0 where
     of_answer : (text : List ℕ) → IsAnswer options text → status ≡ 0 → input' ≡ input
         → contents writer' ≡ Some (before ++ text) → HasEnded options input status input' writer'
+    of_listing : text_asked options ≡ None → has options TypeList ≡ false
+        → exclude_each_other options ≡ false → has options Files ≡ true → input' ≡ input
+        → (has options Quiet ≡ false → HasListed options status writer')
+        → HasEnded options input status input' writer'
     of_search : (patterns : List (String Global)) (mid : R) (regex : Regex)
         → text_asked options ≡ None → has options TypeList ≡ false
-        → exclude_each_other options ≡ false
-        → ArePatternsFor remaining read_step folders options input (map string_bytes patterns) mid
+        → exclude_each_other options ≡ false → has options Files ≡ false
+        → ArePatterns remaining read_step folders.reads options input
+        (map string_bytes patterns) mid
         → regex_options regex ≡ pattern_options options patterns
         → regex_patterns regex ≡ pattern_texts options patterns
-        → (WritesFound options
+        → (has options Quiet ≡ false
         → HasWritten {M = Literal} literal_facts literal_first_at literal_groups_at options regex
         mid status input' writer'
         ⊎ HasWritten {M = Named (naming_of regex)} named_facts named_first_at named_groups_at

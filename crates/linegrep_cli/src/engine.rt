@@ -1,10 +1,10 @@
 //! A searcher, a matcher and a printer, which search as one.
-ghost use Rattle.std.specs.Prelude.{◌≡◌, Bool, MatchOption, None, Some};
+ghost use Rattle.std.specs.Prelude.{◌≡◌, Bool, MatchOption, None, Ok, Some, false};
 ghost use Rattle.linegrep_cli.specs.EngineCalls.{EngineCall, finishes, lists, says};
 ghost use Rattle.linegrep_cli.specs.EngineCalls.{searches_file, searches_input, sets_quits};
 ghost use Rattle.linegrep_cli.specs.EngineSteps.{IsWrittenError};
 ghost use Rattle.linegrep_cli.specs.HyperlinkOptions.{LeadsTo};
-ghost use Rattle.linegrep_cli.specs.PrintingEngines.{IsDoneShown, IsPathWritten, IsSearched};
+ghost use Rattle.linegrep_cli.specs.PrintingEngines.{IsDoneShown, IsSearched};
 ghost use Rattle.linegrep_cli.specs.PrintingEngines.{IsUnsearched, detection_with};
 
 use crate::failures::say;
@@ -20,9 +20,12 @@ use linegrep_files::Folders;
 use std::io;
 use std::io::Read;
 
-/// An engine searches files and standard input, writes what is found, and says what goes wrong. A
-/// run over files is generic in it, so that it is proved without knowing what a searcher and a
-/// printer consist of.
+/// An engine searches files and standard input, or lists files, and says what goes wrong. A run over
+/// files is generic in it, so that it is proved without knowing what a searcher and a printer
+/// consist of.
+///
+/// A run that lists files calls `list`, and neither `search_file` nor `search_input`. Any other run
+/// doesn't call `list`. What an engine isn't for does nothing.
 ///
 /// Clauses know an engine by its steps: the state before a call, the call with what it was given
 /// and returned, and the state after.
@@ -41,7 +44,7 @@ pub trait Engine<F> {
     fn search_input(&mut self, path: Option<&str>) -> Searched
         ensures { step self.old (searches_input path.entry result) self.new };
 
-    /// Writes the path of a file that isn't searched, as the path of a file with a match.
+    /// Lists a file by its path. The file isn't searched.
     fn list(&mut self, path: &str) -> Searched
         ensures { step self.old (lists path.entry result) self.new };
 
@@ -219,23 +222,6 @@ impl<'e, S: Folders, F: Read + Drop, M: CapturesAt + Copy, R: Source, W: Output,
         self.haystack.file = None;
         searched
     }
-
-    // Writes a path, as it is given, as the path of a file with a match.
-    fn list_shown(&mut self, path: PrinterPath<'_>) -> Searched
-        ensures { IsPathWritten M.Error.output M.facts M.first_at M.groups_at W.step F.remaining
-            R.remaining
-            R.step self.old (Some path.entry) result self.new }
-    {
-        let mut line: &[u8] = b"x\n";
-        self.printer.search(
-            self.rt,
-            &mut self.searcher,
-            self.matcher,
-            &mut line,
-            &mut self.writer,
-            Some(path),
-        )
-    }
 }
 
 impl<'e, S: Folders, F: Read + Drop, M: CapturesAt + Copy, R: Source, W: Output, E: Output> Engine<
@@ -258,24 +244,8 @@ impl<'e, S: Folders, F: Read + Drop, M: CapturesAt + Copy, R: Source, W: Output,
         self.search(None, None, path)
     }
 
-    fn list(&mut self, path: &str) -> Searched {
-        let target = match self.hyperlinks {
-            Some(_) => link_target(self.rt.alloc(), self.system, path),
-            None => None,
-        };
-        match self.path_separator {
-            Some(separator) => match with_separator(self.rt.alloc(), path, separator) {
-                Ok(shown) => {
-                    let path = printer_path(shown.as_str(), self.hyperlinks, &target);
-                    self.list_shown(path)
-                }
-                Err(_) => unsearched(),
-            },
-            None => {
-                let path = printer_path(path, self.hyperlinks, &target);
-                self.list_shown(path)
-            }
-        }
+    fn list(&mut self, _path: &str) -> Searched {
+        nothing_found()
     }
 
     fn say(&mut self, text: &str) -> io::Result<()> {
@@ -301,9 +271,9 @@ impl<'e, S: Folders, F: Read + Drop, M: CapturesAt + Copy, R: Source, W: Output,
     }
 }
 
-// A path as it is written, with the link to where it leads, if there are links and it leads
-// somewhere.
-fn printer_path<'p>(
+/// A path as it is written, with the link to where it leads, if there are links and it leads
+/// somewhere.
+pub fn printer_path<'p>(
     text: &'p str,
     hyperlinks: Option<&'p HyperlinkConfig>,
     target: &'p Option<String>,
@@ -320,6 +290,17 @@ fn printer_path<'p>(
         _ => None,
     };
     PrinterPath { text, link }
+}
+
+/// The result if nothing was to be done.
+pub fn nothing_found() -> Searched
+    ensures unmatched { result.has_match ≡ false }
+    ensures ok { result.result ≡ Ok tt }
+{
+    Searched {
+        has_match: false,
+        result: Ok(()),
+    }
 }
 
 /// The result if nothing was searched, since there is no memory.

@@ -1,9 +1,9 @@
 //! What is searched once all of it is found.
-ghost use Rattle.std.specs.Prelude.{◌≡◌, ◌+◌, ◌++◌, ◌∷◌, [], false, length, IfOk, List, Ok, OnErr};
+ghost use Rattle.std.specs.Prelude.{◌≡◌, ◌+◌, ◌++◌, ◌∷◌, [], length, IfOk, List, OnErr};
 ghost use Rattle.std.specs.Prelude.{OnOk};
 ghost use Rattle.linegrep_cli.specs.WaitingFiles.{AreInOrder, AreRanked, IsAt, IsEmpty, IsFound};
 
-use crate::engine::{Engine, unsearched};
+use crate::engine::{Engine, nothing_found, unsearched};
 use grep_printer::Searched;
 use linegrep_files::{Folders, Order, Ranked};
 use std::alloc::{AllocError, Global};
@@ -82,7 +82,7 @@ impl Collector {
         ensures { IsFound target path.now self.old result self.new }
     {
         match self.try_keep(target, path) {
-            Ok(()) => found(),
+            Ok(()) => nothing_found(),
             Err(_) => {
                 self.is_full = true;
                 unsearched()
@@ -128,7 +128,7 @@ impl<F: Drop> Engine<F> for Collector {
     ghost has_failed = { λ collector. collector.is_full };
 
     fn search_file(&mut self, _file: F, _path: Option<&str>) -> Searched {
-        found()
+        nothing_found()
     }
 
     fn search_input(&mut self, _path: Option<&str>) -> Searched {
@@ -157,17 +157,6 @@ impl<F: Drop> Engine<F> for Collector {
 
     fn finish(&mut self) -> io::Result<()> {
         Ok(())
-    }
-}
-
-// Something was found, and nothing is searched yet.
-fn found() -> Searched
-    ensures unmatched { result.has_match ≡ false }
-    ensures ok { result.result ≡ Ok tt }
-{
-    Searched {
-        has_match: false,
-        result: Ok(()),
     }
 }
 

@@ -18,7 +18,6 @@ ghost use Rattle.linegrep_cli.specs.RunScopes.{order_for, searches_binary};
 ghost use Rattle.linegrep_cli.specs.OptionUses.{has};
 ghost use Rattle.linegrep_cli.specs.OptionValues.{AreListed, AreOptions, names_patterns};
 ghost use Rattle.linegrep_cli.specs.OptionValues.{number_for, unrestricted_at};
-ghost use Rattle.linegrep_files.specs.Orders.{is_by_time};
 
 use crate::lists::Lists;
 use crate::program::Streams;
@@ -280,8 +279,6 @@ impl<'m, 'w> Options<'m, 'w> {
     {
         if self.has(OptionId::Quiet) {
             Some(SummaryKind::Quiet)
-        } else if self.has(OptionId::Files) {
-            Some(SummaryKind::PathWithMatch)
         } else if self.counts_matches(is_across) {
             Some(SummaryKind::CountMatches)
         } else if self.counts() {
@@ -360,15 +357,13 @@ impl<'m, 'w> Options<'m, 'w> {
     pub fn counts_all(&self) -> bool
         ensures { result ≡ counts_all self.now }
     {
-        self.has(OptionId::Stats) && !self.has(OptionId::Files) && !self.has(OptionId::Json)
+        self.has(OptionId::Stats) && !self.has(OptionId::Json)
     }
 
     fn is_summary_of_paths(&self) -> bool
         ensures { result ≡ is_summary_of_paths self.now }
     {
-        self.has(OptionId::FilesWithMatches)
-            || self.has(OptionId::FilesWithoutMatch)
-            || self.has(OptionId::Files)
+        self.has(OptionId::FilesWithMatches) || self.has(OptionId::FilesWithoutMatch)
     }
 
     /// Whether columns are written, or a line for each part with its column.

@@ -10,7 +10,7 @@ ghost use Rattle.linegrep_cli.specs.PatternOptions.{has_capital, ignores_case, i
 ghost use Rattle.linegrep_cli.specs.PatternOptions.{is_unicode};
 ghost use Rattle.linegrep_cli.specs.PatternOptions.{joined_text, names_groups};
 ghost use Rattle.linegrep_cli.specs.PatternOptions.{pattern_options, pattern_texts};
-ghost use Rattle.linegrep_cli.specs.PatternOptions.{searched_options, searched_texts};
+ghost use Rattle.linegrep_cli.specs.PatternOptions.{pattern_options, searched_texts};
 ghost use Rattle.grep_regex.specs.Refusals.{IsRefusal};
 ghost use Rattle.grep_regex.specs.declared.error.Error.{Error};
 ghost use Rattle.grep_regex.specs.declared.error.Error.TheVariants.{Memory};
@@ -47,9 +47,6 @@ pub fn compile(
         ⊎ IsRefusal (pattern_options options.now patterns.now) (map string_bytes patterns.now)
         error)) }
 {
-    if options.has(OptionId::Files) {
-        return compile_with(alloc, &RegexMatcherBuilder::new(), &["x"]);
-    }
     match texts_of(alloc, patterns) {
         Ok(texts) => compile_searched(alloc, options, &builder(options, patterns), &texts),
         Err(_) => Err(Failure::out_of_memory()),
@@ -176,7 +173,7 @@ pub fn texts_of<'p>(alloc: Global, patterns: &'p [String]) -> Result<Vec<&'p str
 
 // How the patterns are compiled. If a match may run over lines, no terminator is declared.
 fn builder(options: &Options<'_, '_>, patterns: &[String]) -> RegexMatcherBuilder
-    ensures { result ≡ searched_options options.now patterns.now }
+    ensures { result ≡ pattern_options options.now patterns.now }
 {
     let mut builder = RegexMatcherBuilder::new();
     builder

@@ -1,18 +1,15 @@
 //! The program, by its arguments.
-ghost use Rattle.std.specs.Prelude.{◌≡◌, ◌&&◌, IfErr, IfOk, None, false, is_some, map, nat_lt};
-ghost use Rattle.std.specs.Prelude.{string_bytes, true};
+ghost use Rattle.std.specs.Prelude.{◌≡◌, ◌&&◌, IfOk, None, is_some, nat_lt};
+ghost use Rattle.std.specs.Prelude.{string_bytes};
 ghost use Rattle.std.specs.List.{count_by};
 ghost use Rattle.linegrep_cli.specs.OperandRuns.{is_input};
 ghost use Rattle.grep_output.specs.PendingTexts.{Flushes};
 ghost use Rattle.linegrep_cli.specs.ConfigFiles.{IsConfig, SeeksConfig};
-ghost use Rattle.linegrep_cli.specs.NamedPatterns.{LackPatterns};
 ghost use Rattle.linegrep_cli.specs.ProgramRuns.{IsAnswered, IsOptionsRun, IsParsedRun};
 ghost use Rattle.linegrep_cli.specs.ProgramRuns.{IsProgramRun};
-ghost use Rattle.linegrep_cli.specs.ProgramRuns.{ArePatternsFor, exclude_each_other};
+ghost use Rattle.linegrep_cli.specs.ProgramRuns.{exclude_each_other};
 ghost use Rattle.linegrep_cli.specs.ProgramRuns.{kind_asked, searches_named_input, text_asked};
 ghost use Rattle.linegrep_cli.specs.WrittenRuns.{DoesAsAsked};
-ghost use Rattle.linegrep_files.specs.Failures.{has_cause};
-ghost use Rattle.linegrep_cli.specs.OptionUses.{has};
 ghost use Rattle.linegrep_options.specs.OptionUses.{places_of, values_of};
 ghost use Rattle.linegrep_options.specs.ParsedWords.{AreRead};
 ghost use Rattle.std.specs.Option.{option_map};
@@ -20,6 +17,7 @@ ghost use Rattle.std.specs.Option.{option_map};
 use crate::config::{Config, ConfigFile, read_config, skips_config, warn};
 use crate::config_words::all_words;
 use crate::failures::{Failure, output_failure};
+use crate::listing::list_all;
 use crate::lists::Lists;
 use crate::named_patterns::read_patterns;
 use crate::options::Options;
@@ -309,7 +307,10 @@ fn run_unanswered<S: System, R: Source + Drop, W: Output + Drop, E: Output>(
     if let Some(fault) = fault_of(lists, options) {
         return Ended::refused(errors, &arguments_failure(rt.alloc(), fault), input, output);
     }
-    match patterns_of(rt.alloc(), system, options, &mut input) {
+    if options.has(OptionId::Files) {
+        return list_all(rt, system, options, input, output, errors);
+    }
+    match read_patterns(rt.alloc(), system, options, &mut input) {
         Ok(patterns) => search_all(rt, system, options, &patterns, input, output, errors),
         Err(failure) => Ended::refused(errors, &failure, input, output),
     }
@@ -340,28 +341,6 @@ fn kind_asked<'w>(uses: &[Use<'w>]) -> &'w str
     match last_value(uses, OptionId::Generate) {
         Some(kind) => kind,
         None => "",
-    }
-}
-
-// The patterns of a command line. If files are listed, there are none. Errors are as for
-// `read_patterns`.
-#[inline(never)]
-fn patterns_of<S: System, R: Source>(
-    alloc: Global,
-    system: &S,
-    options: &Options<'_, '_>,
-    input: &mut R,
-) -> Result<Vec<String>, Failure>
-    ensures patterns { IfOk result (λ patterns. ArePatternsFor R.remaining R.step
-        (S.facts system.now) options.now input.old (map string_bytes patterns.items) input.new) }
-    ensures refused { IfErr result (λ failure. has_cause failure ≡ true
-        → (has options.now OptionId.Files ≡ false) × LackPatterns R.remaining R.step
-        (S.facts system.now).reads options.now input.old input.new) }
-{
-    if options.has(OptionId::Files) {
-        Ok(Vec::new(alloc))
-    } else {
-        read_patterns(alloc, system, options, input)
     }
 }
 

@@ -197,7 +197,7 @@ impl Quiet {
             Some(Quiet {
                 seeks_unmatched: options.has(OptionId::FilesWithoutMatch)
                     && !options.has(OptionId::Files),
-                counts_all: options.counts_all(),
+                counts_all: options.counts_all() && !options.has(OptionId::Files),
             })
         } else {
             None

@@ -1,5 +1,5 @@
 //! The search of all that the arguments name.
-ghost use Rattle.std.specs.Prelude.{◌≡◌, ◌⊎◌, List, Option, String, false, true, IfErr, IfOk};
+ghost use Rattle.std.specs.Prelude.{◌≡◌, ◌⊎◌, List, Option, String, true, IfErr, IfOk};
 ghost use Rattle.std.specs.Borrow.{Bor};
 ghost use Rattle.std.specs.Global.{Global};
 ghost use Rattle.std.specs.Option.{option_copied};
@@ -7,31 +7,24 @@ ghost use Rattle.grep_replace.specs.declared.template.Template.{Template};
 ghost use Rattle.grep_regex.specs.Sizes.{AreSized};
 ghost use Rattle.grep_regex.specs.Views.{IsNamed, regex_options, regex_patterns, regex_programs};
 ghost use Rattle.linegrep_cli.specs.PatternOptions.{pattern_options, pattern_texts};
-ghost use Rattle.linegrep_cli.specs.ColorOptions.{refuses_colors};
-ghost use Rattle.linegrep_cli.specs.HyperlinkOptions.{IsFormatAccepted, IsFormatRefused};
-ghost use Rattle.linegrep_cli.specs.PathSeparators.{refuses_path_separator};
-ghost use Rattle.linegrep_cli.specs.PreparedRuns.{IsLayout, IsPrepared};
+ghost use Rattle.linegrep_cli.specs.PreparedRuns.{IsPrepared};
 ghost use Rattle.linegrep_cli.specs.Refusals.{ArePatternsRefused, IsCause, IsRefusedFor, IsSaid};
 ghost use Rattle.linegrep_cli.specs.TemplateOptions.{IsTemplate};
 ghost use Rattle.linegrep_cli.specs.WholeRuns.{IsRunFor, IsRunWith, IsWholeRun};
 ghost use Rattle.linegrep_cli.specs.WholeRuns.{literal_facts, literal_first_at, literal_groups_at};
 ghost use Rattle.linegrep_files.specs.Failures.{has_cause, text_of};
 
-use crate::color_options::color_texts;
 use crate::engine::PrintingEngine;
 use crate::failures::{Failure, say};
-use crate::file_options::file_options;
 use crate::file_run::Run;
-use crate::hyperlinks::hyperlinks;
 use crate::options::Options;
-use crate::patterns::{check_size_limits, compile};
+use crate::patterns::compile;
+use crate::prepared::{Layout, prepare_files};
 use crate::scope::Scope;
-use crate::separators::{path_separator, separators};
 use crate::settings::{build_printer, build_searcher};
 use crate::system::System;
 use crate::template::template;
 use grep_output::Output;
-use grep_printer::{ColorTexts, HyperlinkConfig, Separators};
 use grep_regex::{NamedMatcher, Naming, Regex};
 use grep_replace::{CapturesAt, Template};
 use grep_searcher::{FindAt, Matcher, Searcher, Source};
@@ -88,26 +81,6 @@ impl<'r> Drop for Prepared<'r> {
     }
 }
 
-// What is written besides what is found.
-struct Layout {
-    separators: Option<Separators>,
-    colors: Option<ColorTexts>,
-    path_separator: Option<u8>,
-    hyperlinks: Option<HyperlinkConfig>,
-}
-
-// Written out, so that a caller's proof sees one call.
-impl Drop for Layout {
-    fn drop(self) {
-        let Layout {
-            separators: _separators,
-            colors: _colors,
-            path_separator: _path_separator,
-            hyperlinks: _hyperlinks,
-        } = self;
-    }
-}
-
 // The expression that the options ask for, and what else a search is made with. An error is that a
 // setting is wrong, that a pattern can't be compiled, that a glob isn't well formed, or that there
 // is no memory.
@@ -131,14 +104,8 @@ fn prepare<'r, S: System>(
     ensures refused { IfErr result (λ failure. has_cause failure ≡ true
         → IsCause (S.facts system.now) options.now patterns.now) }
 {
-    options.order().check(rt.alloc(), system)?;
-    check_size_limits(rt.alloc(), options)?;
-    let layout = match layout_of(rt.alloc(), system, options) {
-        Ok(layout) => layout,
-        Err(failure) => return Err(failure),
-    };
-    let choices = match Choices::read(rt, system, &file_options(options)) {
-        Ok(choices) => choices,
+    let (layout, choices) = match prepare_files(rt, system, options) {
+        Ok(prepared) => prepared,
         Err(failure) => return Err(failure),
     };
     let searcher = match build_searcher(rt.alloc(), options) {
@@ -156,43 +123,6 @@ fn prepare<'r, S: System>(
             Ok((regex, prepared))
         }
         Err(failure) => Err(failure),
-    }
-}
-
-// What is written besides what is found. An error is that a setting is wrong, or that there is no
-// memory.
-fn layout_of<S: System>(
-    alloc: Global,
-    system: &S,
-    options: &Options<'_, '_>,
-) -> Result<Layout, Failure>
-    ensures layout { IfOk result (IsLayout (S.facts system.now) options.now) }
-    ensures known { IfOk result (λ _. refuses_path_separator options.now ≡ false) }
-    ensures formatted { IfOk result (λ _. IsFormatAccepted options.now) }
-    ensures refused { IfErr result (λ failure. has_cause failure ≡ true
-        → (refuses_path_separator options.now ≡ true) ⊎ (refuses_colors options.now ≡ true)
-        ⊎ IsFormatRefused options.now) }
-{
-    let path_separator = match path_separator(alloc, options) {
-        Ok(path_separator) => path_separator,
-        Err(failure) => return Err(failure),
-    };
-    let colors = match color_texts(alloc, options) {
-        Ok(colors) => colors,
-        Err(failure) => return Err(failure),
-    };
-    let hyperlinks = match hyperlinks(alloc, system, options) {
-        Ok(hyperlinks) => hyperlinks,
-        Err(failure) => return Err(failure),
-    };
-    match separators(alloc, options) {
-        Ok(separators) => Ok(Layout {
-            separators,
-            colors,
-            path_separator,
-            hyperlinks,
-        }),
-        Err(_) => Err(Failure::out_of_memory()),
     }
 }
 
@@ -242,8 +172,8 @@ pub fn search_all<S: System, R: Source + Drop, W: Output + Drop, E: Output>(
     output: W,
     errors: &mut E,
 ) -> Ended<R, W>
-    ensures { IsRefusedFor E.step (S.facts system.now) options.now patterns.now input output
-        errors.old result.status result.input result.output errors.new
+    ensures { IsRefusedFor E.step (IsCause (S.facts system.now) options.now patterns.now) input
+        output errors.old result.status result.input result.output errors.new
         ⊎ IsWholeRun ⟦<AllocError as Display>⟧.output W.step S.File.remaining R.remaining R.step
         S.facts system.now (S.finds system.now) (S.opens system.now) (S.identifies system.now)
         options.now patterns.now input output errors.old result.status result.input
@@ -274,9 +204,9 @@ where
     requires named { IsNamed N.options N.patterns regex.now }
     requires prepared { IsPrepared (S.facts system.now) options.now prepared }
     requires template { IsTemplate options.now regex.now prepared.template }
-    ensures { ((patterns : List (String Global)) → IsRefusedFor E.step (S.facts system.now)
-        options.now patterns input output errors.old result.status result.input result.output
-        errors.new)
+    ensures { ((patterns : List (String Global)) → IsRefusedFor E.step
+        (IsCause (S.facts system.now) options.now patterns) input output errors.old result.status
+        result.input result.output errors.new)
         ⊎ (IsRunFor ⟦<AllocError as Display>⟧.output literal_facts literal_first_at
         literal_groups_at W.step S.File.remaining R.remaining R.step S.facts system.now
         (S.finds system.now) (S.opens system.now) (S.identifies system.now) options.now regex.now

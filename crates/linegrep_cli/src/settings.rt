@@ -60,9 +60,6 @@ fn try_searcher(alloc: Global, options: &Options<'_, '_>) -> Result<Searcher, Co
         ⊎ (IsLabelError (label_of options.now) error
         × (refuses_label options.now ≡ true))) }
 {
-    if options.has(OptionId::Files) {
-        return SearcherBuilder::new().build(alloc);
-    }
     let encoding = encoding(alloc, options.encoding())?;
     let mut builder = SearcherBuilder::new();
     builder

@@ -1,7 +1,8 @@
 use Rattle.std.proofs.Common.{◌∙◌, List, ap, map, string_bytes, subst, sym}
 use Rattle.std.specs.Global.{Global}
 use Rattle.std.specs.Prelude.{String, is_some}
-use Rattle.linegrep_cli.specs.ProgramRuns.{ArePatternsFor, of_contraries, of_definition, of_patterns, of_refusal}
+use Rattle.linegrep_cli.specs.NamedPatterns.{ArePatterns}
+use Rattle.linegrep_cli.specs.ProgramRuns.{of_contraries, of_definition, of_listing, of_patterns, of_refusal}
 use Rattle.linegrep_cli.specs.ProgramRuns.{of_search, of_types}
 use Rattle.linegrep_cli.proofs.program.run_unanswered.Goals as goal
 
@@ -39,25 +40,31 @@ returns-in-Some g c =
       said = c.refused-in-Some.ensures.said;
     })
 
-pub returns-in-Ok-patterns_of : goal.returns-in-Ok-patterns_of
-returns-in-Ok-patterns_of g c = of_search c.deref.result.now c.patterns_of.new.input
+pub returns-then-has-2 : goal.returns-then-has-2
+returns-then-has-2 g c = of_listing c.requires.unanswered
+    (sym c.has.ensures ∙ c.if-has.false) (sym c.fault_of.ensures ∙ ap is_some c.in_default.is)
+    (sym c.has-2.ensures ∙ c.if-has-2.true) c.list_all.ensures
+
+pub returns-in-Ok-read_patterns : goal.returns-in-Ok-read_patterns
+returns-in-Ok-read_patterns g c = of_search c.deref.result.now c.read_patterns.new.input
     c.requires.unanswered
     (sym c.has.ensures ∙ c.if-has.false) (sym c.fault_of.ensures ∙ ap is_some c.in_default.is)
-    (subst (λ (patterns : List (String Global)). ArePatternsFor g.R.Source.remaining g.R.Source.step
-    (g.S.Folders.facts c.args.system.now) c.args.options.now c.args.input (map string_bytes patterns)
-    c.patterns_of.new.input) (sym c.deref.ensures.value) c.in-Ok-patterns_of.ensures.patterns)
+    (sym c.has-2.ensures ∙ c.if-has-2.false)
+    (subst (λ (patterns : List (String Global)). ArePatterns g.R.Source.remaining g.R.Source.step
+    (g.S.Folders.facts c.args.system.now).reads c.args.options.now c.args.input (map string_bytes patterns)
+    c.read_patterns.new.input) (sym c.deref.ensures.value) c.in-Ok-read_patterns.ensures.patterns)
     c.search_all.ensures
 
-pub returns-in-Err-patterns_of : goal.returns-in-Err-patterns_of
-returns-in-Err-patterns_of g c =
-    of_refusal c.patterns_of.new.input c.in-Err-patterns_of.failure
+pub returns-in-Err-read_patterns : goal.returns-in-Err-read_patterns
+returns-in-Err-read_patterns g c =
+    of_refusal c.read_patterns.new.input c.in-Err-read_patterns.failure
     c.requires.unanswered
-    (λ caused. let (searched, lack) = c.in-Err-patterns_of.ensures.refused caused in of_patterns searched lack)
+    (λ caused. of_patterns (sym c.has-2.ensures ∙ c.if-has-2.false) (c.in-Err-read_patterns.ensures.refused caused))
     (record {
       refused = record {
-        status_is = c.refused-in-Err-patterns_of.ensures.status;
-        unread = c.refused-in-Err-patterns_of.ensures.input;
-        unwritten = c.refused-in-Err-patterns_of.ensures.output;
+        status_is = c.refused-in-Err-read_patterns.ensures.status;
+        unread = c.refused-in-Err-read_patterns.ensures.input;
+        unwritten = c.refused-in-Err-read_patterns.ensures.output;
       };
-      said = c.refused-in-Err-patterns_of.ensures.said;
+      said = c.refused-in-Err-read_patterns.ensures.said;
     })

@@ -1,17 +1,8 @@
-use Rattle.linegrep_cli.specs.Refusals.{of_colors, of_files, of_hyperlink_format, of_path_separator, of_patterns}
-use Rattle.std.proofs.Common.{inl, inr}
+use Rattle.linegrep_cli.specs.Refusals.{of_cause_for_files, of_patterns}
 use Rattle.linegrep_cli.proofs.search.prepare.Goals as goal
 
 pub returns-in-Err-clause-refused : goal.returns-in-Err-clause-refused
-returns-in-Err-clause-refused g c = λ caused. elim (c.in-Err.ensures.refused caused) [
-  | inl separator ↦ of_path_separator separator
-  | inr (inl colors) ↦ of_colors colors
-  | inr (inr format) ↦ of_hyperlink_format format
-]
-
-pub returns-in-Err-read-clause-refused : goal.returns-in-Err-read-clause-refused
-returns-in-Err-read-clause-refused g c = λ caused.
-    of_files c.file_options.result c.file_options.ensures (c.in-Err-read.ensures.err caused)
+returns-in-Err-clause-refused g c = λ caused. of_cause_for_files (c.in-Err.ensures.refused caused)
 
 pub returns-clause-refused : goal.returns-clause-refused
 returns-clause-refused g c = λ caused. of_patterns (c.in-Err-compile_with_template.ensures.refused caused)

@@ -6,7 +6,8 @@ returns-in-Ok c =
     let (waiting, is_at, more) = c.in-Ok.ensures.kept in record {
       texts = c.try_keep.ensures.texts;
       quits = c.try_keep.ensures.quits;
-      unmatched = c.found.ensures.unmatched;
+      unmatched = c.nothing_found.ensures.unmatched;
       kept = λ ok. (waiting, is_at, more, c.try_keep.ensures.is_full);
-      full = λ error failed. absurd (not-both c.found.result.result tt error c.found.ensures.ok failed);
+      full = λ error failed.
+          absurd (not-both c.nothing_found.result.result tt error c.nothing_found.ensures.ok failed);
     }

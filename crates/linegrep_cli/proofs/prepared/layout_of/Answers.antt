@@ -1,5 +1,5 @@
 use Rattle.std.proofs.Common.{inl, inr}
-use Rattle.linegrep_cli.proofs.search.layout_of.Goals as goal
+use Rattle.linegrep_cli.proofs.prepared.layout_of.Goals as goal
 
 pub returns-in-Err-clause-refused : goal.returns-in-Err-clause-refused
 returns-in-Err-clause-refused g c = λ caused. inl (c.in-Err.ensures.refused caused)
