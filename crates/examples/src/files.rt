@@ -8,11 +8,12 @@ use std::fs;
 use std::io::Write;
 
 /// Writes the lines that match a pattern in the files at some paths, and in all files of the
-/// folders among them, each line after the path of its file. What can't be searched it names on
-/// standard error, and goes on. It corresponds to the example program `simplegrep` of upstream's
-/// crate grep.
+/// folders among them, each line after the path of its file. It doesn't follow links that are in a
+/// folder. What can't be searched it names on standard error, and goes on. It corresponds to the
+/// example program `simplegrep` of upstream's crate grep.
 ///
-/// An error is that of the pattern, which it names, of the writer, or of being out of memory.
+/// An error is that of the pattern, which it names, of the writer or of standard error, or of being
+/// out of memory.
 pub fn simplegrep<W: Write>(
     rt: &HostRuntime,
     pattern: &str,
@@ -32,15 +33,10 @@ pub fn simplegrep<W: Write>(
     let mut writer = Writing::new(writer);
     for path in files_at(rt, paths)? {
         let path = path.as_str();
-        if let Err(error) = print_file(
-            rt,
-            &mut searcher,
-            &matcher,
-            &mut printer,
-            path,
-            &mut writer,
-        ) {
-            eprintln!(rt; "{path}: {error}")?;
+        match print_file(rt, &mut searcher, &matcher, &mut printer, path, &mut writer) {
+            Ok(()) => {}
+            Err(error) if printer.has_failed() => return Err(error),
+            Err(error) => eprintln!(rt; "{path}: {error}")?,
         }
     }
     printer.flush(&mut writer)?;
@@ -62,36 +58,46 @@ fn print_file<W: Output>(
         .result
 }
 
-// The paths of the files, and of all files of the folders. What can't be read is named on standard
+// The paths of the files, and of all files in the folders. What can't be read is named on standard
 // error.
 fn files_at(rt: &HostRuntime, paths: &[&str]) -> Result<Vec<String>, SearchError> {
-    let mut waiting = Vec::new(rt.alloc());
-    for path in paths {
-        waiting.push(String::from_str(rt.alloc(), path)?)?;
-    }
     let mut files = Vec::new(rt.alloc());
+    let mut folders = Vec::new(rt.alloc());
+    for path in paths {
+        let path = String::from_str(rt.alloc(), path)?;
+        match fs::metadata(rt, path.as_str()) {
+            Ok(data) if data.is_dir() => folders.push(path)?,
+            _ => files.push(path)?,
+        }
+    }
     for _ in 0..u64::MAX {
-        let Some(path) = waiting.pop() else {
+        let Some(folder) = folders.pop() else {
             break;
         };
-        match fs::metadata(rt, path.as_str()) {
-            Ok(data) if data.is_dir() => {
-                if let Err(error) = push_names(rt, path.as_str(), &mut waiting) {
-                    eprintln!(rt; "{path}: {error}")?;
-                }
-            }
-            _ => files.push(path)?,
+        if let Err(error) = push_entries(rt, folder.as_str(), &mut files, &mut folders) {
+            eprintln!(rt; "{folder}: {error}")?;
         }
     }
     Ok(files)
 }
 
-// Adds the paths of what a folder has.
-fn push_names(rt: &HostRuntime, folder: &str, paths: &mut Vec<String>) -> Result<(), SearchError> {
+// Adds the paths of the files and folders in a folder. Links are left out.
+fn push_entries(
+    rt: &HostRuntime,
+    folder: &str,
+    files: &mut Vec<String>,
+    folders: &mut Vec<String>,
+) -> Result<(), SearchError> {
     for entry in fs::read_dir(rt, folder)? {
         let entry = entry?;
         let name = entry.file_name();
-        paths.push(format!(in rt.alloc(); "{folder}/{name}")?)?;
+        let path = format!(in rt.alloc(); "{folder}/{name}")?;
+        match fs::symlink_metadata(rt, path.as_str()) {
+            Ok(data) if data.is_dir() => folders.push(path)?,
+            Ok(data) if data.is_file() => files.push(path)?,
+            Ok(_) => {}
+            Err(error) => eprintln!(rt; "{path}: {error}")?,
+        }
     }
     Ok(())
 }

@@ -15,7 +15,11 @@ pub fn search_stdin(rt: &HostRuntime, pattern: &str) -> Result<(), SearchError> 
     write_matches(rt.alloc(), pattern, &mut rt.stdin(), &mut rt.stdout())
 }
 
-/// The same from any reader to any writer.
+/// Writes the lines of a reader that match a pattern to a writer, each after its number and a
+/// colon.
+///
+/// An error is that of the pattern, which it names, of the reader or writer, of a line that isn't
+/// UTF-8, or of being out of memory.
 pub fn write_matches<R: Read, W: Write>(
     alloc: Global,
     pattern: &str,
