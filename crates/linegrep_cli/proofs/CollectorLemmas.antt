@@ -38,7 +38,7 @@ module _ (F : Type 0) (scope : Scope) where
   one-found : (target : Target) (path : List ℕ) (quits : Bool) (found : List Waiting) (match other : Bool)
       (old mid new : Collector)
       (searched : Searched) (visit : Visit) → IsFound target path old searched mid
-      → IsKept Collecting full (finding_scope scope) mid searched visit new → IsGood visit
+      → IsKept Collecting full (finding_scope scope) mid searched visit new → IsGood (finding_scope scope) visit
       → Has quits found match old → One target path quits found other new
   one-found target path quits found match other old mid new searched visit is after good has =
       let (ok, same) = search-ended Collecting full (finding_scope scope) mid new searched.result visit after.ended good in
@@ -70,7 +70,7 @@ module _ (F : Type 0) (scope : Scope) where
       -- a file is found
       listed : (path : Bor (List ℕ)) (quits : Bool) (found : List Waiting) (match : Bool) (old : Collector)
           (visit : Visit) (new : Collector)
-          → IsListed Collecting full (finding_scope scope) path old visit new → IsGood visit
+          → IsListed Collecting full (finding_scope scope) path old visit new → IsGood (finding_scope scope) visit
           → Has quits found match old → One (FileTarget quits) path.now quits found (match || visit.has_match) new
       listed path quits found match old visit new (searched, mid, listing, after) good has =
           subst (λ q. One (FileTarget q) path.now quits found (match || visit.has_match) new) has.quits_is
@@ -82,12 +82,12 @@ module _ {F : Type 0} (folders : FolderFacts) (finds : List ℕ → Result Bool 
   -- all that is found, if nothing failed
   pub all-found : (choices : Choices) (paths : List (Bor (List ℕ))) (old : Collector) (total : Visit) (new : Collector)
       → AreAllVisited folders finds opens identifies IsCollecting full (finding_scope scope) choices paths old total new
-      → IsGood total → IsEmpty old
+      → IsGood (finding_scope scope) total → IsEmpty old
       → AreAllFound IsAt folders finds scope.route (not scope.searches_binary) scope.searches_input choices paths
       new.found.items
   all-found choices paths old total new visited good empty =
       let (found, are, has) = AllFound IsAt folders finds opens identifies IsCollecting full (finding_scope scope) Has
-      (keep F scope) refl refl choices paths old total new visited good
+      (keep F scope) refl choices paths old total new visited good
       (record { quits_is = empty.quits; found_is = empty.found }) in
       subst (AreAllFound IsAt folders finds scope.route (not scope.searches_binary) scope.searches_input choices paths)
       (sym has.found_is) are

@@ -419,7 +419,7 @@ module _ {S F M R W X E : Type 0} (output : E → Option (List ℕ)) (facts : M 
   calls-keep = record {
     file = λ old new path file searched step sound. file-sound old new path file searched step sound;
     input = λ old new path searched step sound. input-sound old new path searched step sound;
-    list = λ old new path searched same sound. unsearched-sound old new searched same sound;
+    list = λ old new path searched (none, same) sound. unsearched-sound old new searched same sound;
     text = λ old new said step sound. text-sound old new said step sound;
     quits = λ old new quits is sound. record {
       asks = ap (λ (e : PrintingEngine S F M R W X). e.matcher) is ∙ sound.asks;

@@ -38,10 +38,10 @@ module _ {E F T : Type 0} (IsAt : Target → List ℕ → T → Type 0) (step : 
   -- bytes, what was found, and whether that counts as a match.
   pub record ListsKeep : Type 0 where
     pub file : (path : Bor (List ℕ)) (quits : Bool) (found : List T) (match : Bool) (old : E) (visit : Visit) (new : E)
-        → IsListed step has_failed scope path old visit new → IsGood visit → Has quits found match old
+        → IsListed step has_failed scope path old visit new → IsGood scope visit → Has quits found match old
         → WithOne (FileTarget quits) path.now quits found (match || visit.has_match) new
     pub input : (found : List T) (match : Bool) (old : E) (visit : Visit) (new : E)
-        → IsInputVisited step has_failed scope old visit new → IsGood visit → Has false found match old
+        → IsInputVisited step has_failed scope old visit new → IsGood scope visit → Has false found match old
         → WithOne StandardInput (codes "<stdin>") false found (match || visit.has_match) new
     pub text : (quits : Bool) (found : List T) (match : Bool) (old new : E) → step old (says (Ok tt)) new
         → Has quits found match old → Has quits found match new
@@ -64,12 +64,12 @@ module _ {E F T : Type 0} (IsAt : Target → List ℕ → T → Type 0) (folders
     (opens : List ℕ → Result F Error → Type 0) (identifies : F → Option FileId → Type 0)
     (step : E → EngineCall F → E → Type 0) (has_failed : E → Bool) (scope : Scope)
     (Has : Bool → List T → Bool → E → Type 0) (keep : ListsKeep IsAt step has_failed scope Has)
-    (lists : scope.lists_files ≡ true) (unquiet : scope.quiet ≡ None) where
+    (lists : scope.lists_files ≡ true) where
   -- each file is listed
   searches-none : {R : Type 0} → scope.lists_files ≡ false → R
   searches-none searches = absurd (true≢false (sym lists ∙ searches))
 
-  unread : (old new : E) (visit : Visit) → IsReported step scope old visit new → IsGood visit → ⊥
+  unread : (old new : E) (visit : Visit) → IsReported step scope old visit new → IsGood scope visit → ⊥
   unread = reported-bad step scope
 
   abbrev quitting : Bool
@@ -85,7 +85,7 @@ module _ {E F T : Type 0} (IsAt : Target → List ℕ → T → Type 0) (folders
       × Has quitting (found ++ next) match new
 
   entry-found : (entries : List Entry) (found : List T) (match before : Bool) (mid : E) (entry : Entry) (visit : Visit)
-      (new : E) → IsEntryVisited opens identifies step has_failed scope mid entry visit new → IsGood visit
+      (new : E) → IsEntryVisited opens identifies step has_failed scope mid entry visit new → IsGood scope visit
       → WithFiles entries found (match || before) mid
       → WithFiles (entries ++ entry ∷ []) found (match || (before || visit.has_match)) new
   entry-found entries found match before mid _ visit new (of_path path is searching visited) good with_them =
@@ -114,7 +114,7 @@ module _ {E F T : Type 0} (IsAt : Target → List ℕ → T → Type 0) (folders
       )
 
   entries-found : (found : List T) (match : Bool) (old : E) (entries : List Entry) (total : Visit) (new : E)
-      → AreEntriesVisited opens identifies step has_failed scope old entries total new → IsGood total
+      → AreEntriesVisited opens identifies step has_failed scope old entries total new → IsGood scope total
       → Has quitting found match old → WithFiles entries found (match || total.has_match) new
   entries-found found match old _ _ _ no_entry good has = (
     [],
@@ -135,11 +135,11 @@ module _ {E F T : Type 0} (IsAt : Target → List ℕ → T → Type 0) (folders
   folder-found : (found : List T) (match : Bool) (choices : Choices) (folder : List ℕ) (old : E) (visit : Visit)
       (new : E)
       → IsFolderVisited folders opens identifies step has_failed scope choices folder old visit new
-      → IsGood visit → Has false found match old → WithFolder choices folder found (match || visit.has_match) new
+      → IsGood scope visit → Has false found match old → WithFolder choices folder found (match || visit.has_match) new
   folder-found found match choices folder old visit new is good has = elim is.tree.visit_is [
     | inl same ↦
         let (next, files, now) = entries-found found match is.first is.tree.visited is.tree.total is.last
-        is.tree.entries (subst IsGood same good) (keep.quits false quitting found match old is.first is.begins has) in (
+        is.tree.entries (subst (IsGood scope) same good) (keep.quits false quitting found match old is.first is.begins has) in (
           next,
           record { entries = is.tree.visited; all = all is.tree.walked; files = files },
           has-match false (found ++ next) (match || is.tree.total.has_match) (match || visit.has_match) new
@@ -153,17 +153,17 @@ module _ {E F T : Type 0} (IsAt : Target → List ℕ → T → Type 0) (folders
       all : IsWalkedTo folders scope choices folder is.tree.visited visit
           → AreAllOf folders scope.route choices folder is.tree.visited
       all (inl whole) = whole
-      all (inr (over, first)) = absurd (true≢false (sym over ∙ goes-on scope unquiet visit good))
+      all (inr (over, first)) = absurd (true≢false (sym over ∙ goes-on scope visit good))
 
   here-found : (found : List T) (match : Bool) (choices : Choices) (old : E) (visit : Visit) (new : E)
       → IsHereVisited folders opens identifies step has_failed scope choices old visit new
-      → IsGood visit → Has false found match old → WithFolder choices [] found (match || visit.has_match) new
+      → IsGood scope visit → Has false found match old → WithFolder choices [] found (match || visit.has_match) new
   here-found found match choices old visit new is good has =
       either (is_none is.folder.failure && not is.folder.has_searched && not scope.lists_files)
       (λ none (failure, said, missed). absurd (true≢false (sym (ap (λ (v : Visit). v.has_error) missed)
       ∙ good.no_error)))
       (λ none (same, moved).
-      let (next, of, now) = folder-found found match choices [] old is.folder is.mid is.visited (subst IsGood same good)
+      let (next, of, now) = folder-found found match choices [] old is.folder is.mid is.visited (subst (IsGood scope) same good)
       has in (
         next,
         of,
@@ -181,7 +181,7 @@ module _ {E F T : Type 0} (IsAt : Target → List ℕ → T → Type 0) (folders
   named-found : (found : List T) (match : Bool) (choices : Choices) (path : Bor (List ℕ)) (old : E) (visit : Visit)
       (new : E) → is_input path.now ≡ false → is_escaped path.now ≡ false
       → IsNamedVisited folders finds opens identifies step has_failed scope choices path old visit new
-      → IsGood visit → Has false found match old → WithOperand choices path found (match || visit.has_match) new
+      → IsGood scope visit → Has false found match old → WithOperand choices path found (match || visit.has_match) new
   named-found found match choices path old visit new named text (of_folder is_folder visited) good has =
       let (next, of, now) = folder-found found match choices path.now old visit new visited good has in
       (next, of_found_folder named text is_folder of, now)
@@ -198,7 +198,7 @@ module _ {E F T : Type 0} (IsAt : Target → List ℕ → T → Type 0) (folders
   operand-found : (found : List T) (match : Bool) (choices : Choices) (path : Bor (List ℕ)) (old : E) (visit : Visit)
       (new : E)
       → IsOperandVisited folders finds opens identifies step has_failed scope choices path old visit new
-      → IsGood visit → Has false found match old → WithOperand choices path found (match || visit.has_match) new
+      → IsGood scope visit → Has false found match old → WithOperand choices path found (match || visit.has_match) new
   operand-found found match choices path old visit new visited good has =
       either (is_input path.now)
       (λ named standard.
@@ -209,7 +209,7 @@ module _ {E F T : Type 0} (IsAt : Target → List ℕ → T → Type 0) (folders
       visited
 
   operands-found : (choices : Choices) (old : E) (paths : List (Bor (List ℕ))) (total : Visit) (new : E)
-      → AreVisited folders finds opens identifies step has_failed scope choices old paths total new → IsGood total
+      → AreVisited folders finds opens identifies step has_failed scope choices old paths total new → IsGood scope total
       → Has false [] false old
       → (found : List T)
       × AreFoundFor IsAt folders finds scope.route quitting scope.searches_input choices paths found
@@ -224,7 +224,7 @@ module _ {E F T : Type 0} (IsAt : Target → List ℕ → T → Type 0) (folders
   -- all that is found, if nothing failed
   pub all-found : (choices : Choices) (paths : List (Bor (List ℕ))) (old : E) (total : Visit) (new : E)
       → AreAllVisited folders finds opens identifies step has_failed scope choices paths old total new
-      → IsGood total → Has false [] false old
+      → IsGood scope total → Has false [] false old
       → (found : List T)
       × AreAllFound IsAt folders finds scope.route quitting scope.searches_input choices paths found
       × Has false found total.has_match new
@@ -232,7 +232,7 @@ module _ {E F T : Type 0} (IsAt : Target → List ℕ → T → Type 0) (folders
     where
       none-left : (rest : List (Bor (List ℕ))) → ((rest ≡ []) ⊎ (is_over scope total ≡ true)) → rest ≡ []
       none-left rest (inl nothing) = nothing
-      none-left rest (inr over) = absurd (true≢false (sym over ∙ goes-on scope unquiet total good))
+      none-left rest (inr over) = absurd (true≢false (sym over ∙ goes-on scope total good))
 
       by : (paths : List (Bor (List ℕ)))
           → AreAllVisited folders finds opens identifies step has_failed scope choices paths old total new

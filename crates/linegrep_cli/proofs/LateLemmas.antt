@@ -11,7 +11,7 @@ use Rattle.linegrep_cli.proofs.VisitTextLemmas.{goes-on, has-searched, none-of, 
 use Rattle.linegrep_cli.specs.EngineCalls.{EngineCall}
 use Rattle.linegrep_cli.specs.FoundFiles.{AreFoundSorted}
 use Rattle.linegrep_cli.specs.OperandRuns.{AreSortedVisited, AreVisitedLate, AreWaitingVisited, AreWritten}
-use Rattle.linegrep_cli.specs.OperandRuns.{IsFoundVisited, no_visit}
+use Rattle.linegrep_cli.specs.OperandRuns.{IsFoundVisited, ends_with_match, finding_scope, no_visit}
 use Rattle.linegrep_cli.specs.OperandRuns.{is_bare, is_over, of_found_all, of_memory, of_sorted}
 use Rattle.linegrep_cli.specs.OperandRuns.{of_unfound_all}
 use Rattle.linegrep_cli.specs.WaitingFiles.{AreInOrder, AreRanked}
@@ -26,11 +26,11 @@ use Rattle.linegrep_files.specs.declared.file_id.FileId.{FileId}
 -- there was a match and whether something was searched, and of the engine after it.
 module _ {E F : Type 0} (folders : FolderFacts) (finds : List ℕ → Result Bool Error → Type 0)
     (opens : List ℕ → Result F Error → Type 0) (identifies : F → Option FileId → Type 0)
-    (step : E → EngineCall F → E → Type 0) (has_failed : E → Bool) (scope : Scope) (unquiet : scope.quiet ≡ None)
+    (step : E → EngineCall F → E → Type 0) (has_failed : E → Bool) (scope : Scope)
     (First : E → Type 0) (Gives : List Waiting → Bool → Bool → E → Type 0)
     (said : (count : ℕ) (old new : E) → AreWritten step old count None new → First old → First new)
     (visits : (old : E) (done : List Waiting) (total : Visit) (new : E)
-    → AreWaitingVisited opens identifies step has_failed scope old done total new → IsGood total → First old
+    → AreWaitingVisited opens identifies step has_failed scope old done total new → IsGood scope total → First old
     → Gives done total.has_match total.has_searched new) where
   -- what was visited of what was found, in order
   pub record IsSorted (found : List Waiting) (match searched : Bool) (new : E) : Type 0 where
@@ -41,7 +41,7 @@ module _ {E F : Type 0} (folders : FolderFacts) (finds : List ℕ → Result Boo
     pub gives : Gives sorted match searched new
 
   sorted-visited : (found : List Waiting) (old : E) (visit : Visit) (new : E)
-      → AreSortedVisited folders opens identifies step has_failed scope found old visit new → IsGood visit
+      → AreSortedVisited folders opens identifies step has_failed scope found old visit new → IsGood scope visit
       → First old → IsSorted found visit.has_match visit.has_searched new
   sorted-visited found old _ _ (of_memory error memory) good at =
       absurd (some-none (Some error) error refl good.no_failure)
@@ -57,12 +57,12 @@ module _ {E F : Type 0} (folders : FolderFacts) (finds : List ℕ → Result Boo
     where
       none-left : ((part.rest ≡ []) ⊎ (is_over scope visit ≡ true)) → part.rest ≡ []
       none-left (inl nothing) = nothing
-      none-left (inr over) = absurd (true≢false (sym over ∙ goes-on scope unquiet visit good))
+      none-left (inr over) = absurd (true≢false (sym over ∙ goes-on scope visit good))
 
   -- what was visited of what was found, by what came of finding it
   pub record IsVisitedOf (paths : List (Bor (List ℕ))) (found : List Waiting) (finding : Visit) (match : Bool) (new : E)
       : Type 0 where
-    pub good : IsGood finding
+    pub good : IsGood (finding_scope scope) finding
     pub searched : Bool
     pub sorted : IsSorted found match searched new
     pub some : scope.lists_files ≡ false → is_bare paths ≡ true → scope.searches_input ≡ false → searched ≡ true
@@ -70,7 +70,7 @@ module _ {E F : Type 0} (folders : FolderFacts) (finds : List ℕ → Result Boo
   found-visited : (paths : List (Bor (List ℕ))) (found : List Waiting) (finding : Visit) (old : E) (visit : Visit)
       (new : E)
       → IsFoundVisited folders opens identifies step has_failed scope paths found finding old visit new
-      → IsGood visit → First old → IsVisitedOf paths found finding visit.has_match new
+      → IsGood scope visit → First old → IsVisitedOf paths found finding visit.has_match new
   found-visited paths found finding old _ _ (of_unfound_all failed) good at =
       absurd (true≢false (sym failed ∙ ap is_some good.no_failure))
   found-visited paths found finding old visit new (of_found_all next _ {mid} unfailed visited after) good at =
@@ -92,14 +92,17 @@ module _ {E F : Type 0} (folders : FolderFacts) (finds : List ℕ → Result Boo
           → IsVisitedOf paths found finding visit.has_match new
       by same moved some =
           let unread = sym (ap (λ (v : Visit). v.has_error) same) ∙ good.no_error in
-          let good_next : IsGood next = record {
+          let good_next : IsGood scope next = record {
             no_error = first-false next.has_error finding.has_error unread;
             no_failure = sym (ap (λ (v : Visit). v.failure) same) ∙ good.no_failure;
+            goes_on = sym (ap (λ (v : Visit). ends_with_match scope.quiet && v.has_match) same)
+                ∙ good.goes_on;
           } in
           record {
             good = record {
               no_error = second-false next.has_error finding.has_error unread;
               no_failure = none-of finding.failure unfailed;
+              goes_on = refl;
             };
             searched = next.has_searched;
             sorted = subst (λ m. IsSorted found m next.has_searched new)
@@ -119,7 +122,7 @@ module _ {E F : Type 0} (folders : FolderFacts) (finds : List ℕ → Result Boo
 
   pub late-visited : (choices : Choices) (paths : List (Bor (List ℕ))) (old : E) (total : Visit) (new : E)
       → AreVisitedLate folders finds opens identifies step has_failed scope choices paths old total new
-      → IsGood total → First old → IsLate choices paths total.has_match new
+      → IsGood scope total → First old → IsLate choices paths total.has_match new
   late-visited choices paths old total new is good at = by is.failure is.said is.visited
     where
       by : (failure : Option Error) → AreWritten step old (length is.collector.texts.items) failure is.mid

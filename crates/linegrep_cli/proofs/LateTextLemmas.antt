@@ -8,6 +8,7 @@ use Rattle.linegrep_cli.proofs.LateLemmas.{late-visited as LateVisited}
 use Rattle.linegrep_cli.proofs.VisitTextLemmas.{IsGood, StepsKeep, all-visited, all-waiting-visited, said-all}
 use Rattle.linegrep_cli.specs.EngineCalls.{EngineCall}
 use Rattle.linegrep_cli.specs.OperandRuns.{AreAllVisited, AreVisitedInOrder, AreVisitedLate}
+use Rattle.linegrep_cli.specs.OperandRuns.{seeks_unmatched}
 use Rattle.linegrep_cli.specs.RunInputs.{AreOfWaiting, AreSearched, AreSearchedInTurn, AreSearchedLate}
 use Rattle.linegrep_cli.specs.SearchTexts.{Input}
 use Rattle.linegrep_cli.specs.declared.late.Waiting.{Waiting}
@@ -25,7 +26,8 @@ module _ {E F R : Type 0} (folders : FolderFacts) (finds : List ℕ → Result B
     (IsReader : Option (Bor (List ℕ)) → R → Input → R → Type 0)
     (At : Bool → List Input → Bool → R → E → Type 0)
     (kept : StepsKeep folders finds opens identifies step has_failed scope IsFile IsReader At)
-    (unquiet : scope.quiet ≡ None) (searches : scope.lists_files ≡ false) (reads : scope.lists_input ≡ false) where
+    (sought : seeks_unmatched scope.quiet ≡ false) (searches : scope.lists_files ≡ false)
+    (reads : scope.lists_input ≡ false) where
   -- what was searched of what waited
   abbrev Gives : R → List Waiting → Bool → Bool → E → Type 0
   Gives first sorted match searched new = (inputs : List Input) × (last : R)
@@ -34,16 +36,16 @@ module _ {E F R : Type 0} (folders : FolderFacts) (finds : List ℕ → Result B
 
   late-visited : (first : R) (choices : Choices) (paths : List (Bor (List ℕ))) (old : E) (total : Visit) (new : E)
       → AreVisitedLate folders finds opens identifies step has_failed scope choices paths old total new
-      → IsGood total → At false [] false first old
+      → IsGood scope total → At false [] false first old
       → (inputs : List Input) × (last : R)
       × AreSearchedLate folders finds opens identifies scope IsFile IsReader choices paths first inputs last
       × At false inputs total.has_match last new
   late-visited first choices paths old total new is good at =
-      let late = LateVisited folders finds opens identifies step has_failed scope unquiet (At false [] false first)
+      let late = LateVisited folders finds opens identifies step has_failed scope (At false [] false first)
       (Gives first) (λ count old new said at. said-all folders finds opens identifies step has_failed scope IsFile
-      IsReader At kept unquiet searches reads false [] false first old count None new said refl at)
+      IsReader At kept sought searches reads false [] false first old count None new said refl at)
       (λ old done total new visited good at. all-waiting-visited folders finds opens identifies step has_failed scope
-      IsFile IsReader At kept unquiet searches reads first old done total new visited good at)
+      IsFile IsReader At kept sought searches reads first old done total new visited good at)
       choices paths old total new is good at in
       let (inputs, last, are, some, now) = late.gives in (
         inputs,
@@ -61,7 +63,7 @@ module _ {E F R : Type 0} (folders : FolderFacts) (finds : List ℕ → Result B
   pub ordered-visited : (first : R) (choices : Choices) (paths : List (Bor (List ℕ))) (old : E) (total : Visit)
       (new : E)
       → AreVisitedInOrder folders finds opens identifies step has_failed scope choices paths old total new
-      → IsGood total → At false [] false first old
+      → IsGood scope total → At false [] false first old
       → (inputs : List Input) × (last : R)
       × AreSearched folders finds opens identifies scope IsFile IsReader choices paths first inputs last
       × At false inputs total.has_match last new
@@ -78,4 +80,4 @@ module _ {E F R : Type 0} (folders : FolderFacts) (finds : List ℕ → Result B
           × At false inputs total.has_match last new
       by true visited = late-visited first choices paths old total new visited good at
       by false visited = all-visited folders finds opens identifies step has_failed scope IsFile IsReader At kept
-          unquiet searches reads first choices paths old total new visited good at
+          sought searches reads first choices paths old total new visited good at

@@ -1,6 +1,6 @@
 -- What a search of bytes without a NUL prints that reports matches alone: with a printer of lines,
 -- the texts of the lines that hit.
-use Rattle.std.proofs.Common.{◌≡◌, ◌∙◌, ℕ, ◌+◌, false, List, [], ◌++◌}
+use Rattle.std.proofs.Common.{◌≡◌, ◌∙◌, ℕ, ◌+◌, Bool, true, false, List, [], ◌++◌}
 use Rattle.std.proofs.Common.{Option, None, ap, ap₂, arith, length, refl, subst, sym}
 use Rattle.std.proofs.lemmas.List.{append-nil}
 use Rattle.std.specs.List.{flat_map}
@@ -14,10 +14,10 @@ use Rattle.grep_printer.specs.declared.hyperlinks.PrinterPath.{PrinterPath}
 use Rattle.grep_printer.specs.declared.standard.StandardFormat.{StandardFormat}
 use Rattle.grep_searcher.specs.HitLines.{hit_matches}
 use Rattle.grep_searcher.specs.Meanings.{MatcherFacts}
-use Rattle.grep_searcher.specs.Plans.{Call, Plan, Settings, finishes, is_across, search_plan}
+use Rattle.grep_searcher.specs.Plans.{Call, Plan, Settings, is_across, search_plan}
 use Rattle.grep_searcher.specs.Searches.{BinaryPoint, look_of, plan_with, viewed_plan}
 use Rattle.linegrep_cli.proofs.MatchPlanLemmas.{match-plan}
-use Rattle.linegrep_cli.proofs.MatchWalkLemmas.{AreSteps, IsMade, match-walk}
+use Rattle.linegrep_cli.proofs.MatchWalkLemmas.{AreSteps, IsMade, match-walk, printed_of}
 use Rattle.linegrep_cli.proofs.PlainSettingLemmas.{ArePlainSettings}
 use Rattle.linegrep_cli.proofs.PlainTextLemmas.{IsPlainFormat, WritesLines, end-none, plain-text}
 use Rattle.linegrep_cli.proofs.PlainTextLemmas.{standard-steps}
@@ -42,15 +42,16 @@ module _ {M E : Type 0} (facts : M → MatcherFacts E) (first_at : M → List �
   pub by-line : is_across k (facts matcher).meaning ≡ false
   by-line = rw plain.single refl
 
-  -- what is made of the matches, by any rules under which a search goes on after each
+  -- what is made of the matches, by any rules under which a search goes on after each, or ends at
+  -- the first
   pub search-made : {F : Type 0} (rules : Rules F) (Good : ℕ → F → Type 0) (text-of : Call → List ℕ)
-      (begun last : F) (written : List ℕ)
-      → AreSteps rules scene (HasAsked rules facts first_at k matcher path) Good text-of
+      (on : Bool) (begun last : F) (written : List ℕ)
+      → AreSteps rules scene (HasAsked rules facts first_at k matcher path) Good text-of on
       → Good 0 begun → IsTextOf rules facts first_at k matcher path begun text last written
       → IsMade rules scene (HasAsked rules facts first_at k matcher path) Good text-of
-      (record { format = begun; text = [] }) 0 found plan.finish
+      (record { format = begun; text = [] }) 0 (printed_of found on)
       (record { format = last; text = written })
-  search-made {F} rules Good text-of begun last written steps good of =
+  search-made {F} rules Good text-of on begun last written steps good of =
       let look = look_of k (facts matcher).meaning false in
       let unpointed : of.point ≡ None =
       no-point k (facts matcher).meaning text plain.looks none by-line of.count
@@ -61,16 +62,12 @@ module _ {M E : Type 0} (facts : M → MatcherFacts E) (first_at : M → List �
       (viewed_plan k (facts matcher).meaning look text)) unpointed
       ∙ same-plan k (facts matcher).meaning text plain.looks none look in
       subst (IsMade rules scene (HasAsked rules facts first_at k matcher path) Good text-of
-      (record { format = begun; text = [] }) 0 found plan.finish)
+      (record { format = begun; text = [] }) 0 (printed_of found on))
       (sym (ap₂ made-of of.last_is of.text_is))
-      (match-walk rules scene (HasAsked rules facts first_at k matcher path) Good text-of steps plan
+      (match-walk rules scene (HasAsked rules facts first_at k matcher path) Good text-of on steps plan
       found begun of.printed (match-plan k (facts matcher).meaning text plain.reports by-line) good
       (subst (λ (p : Plan). AreAlong rules scene (HasAsked rules facts first_at k matcher path) begun
       p.calls p.finish of.printed) same of.along))
-
-  -- no binary byte is at the end of the plan
-  pub no-end : plan.finish.binary ≡ None
-  no-end = (match-plan k (facts matcher).meaning text plain.reports by-line).binary
 
   -- a printer of lines writes the texts of the matches, and has found something if there is one
   pub lines-searched : (format : CountedFormat StandardFormat) (findings : Findings)
@@ -81,7 +78,7 @@ module _ {M E : Type 0} (facts : M → MatcherFacts E) (first_at : M → List �
   lines-searched format findings writes counted =
       let rules = counted_rules standard_rules in
       let texts = flat_map (plain-text (byte_of k.line_terminator)) found in
-      let made = search-made rules (IsPlainFormat scene) (plain-text (byte_of k.line_terminator))
+      let made = search-made rules (IsPlainFormat scene) (plain-text (byte_of k.line_terminator)) true
       (rules.begun format false) counted.last findings.text
       (standard-steps scene (HasAsked rules facts first_at k matcher path))
       (record {
@@ -92,9 +89,7 @@ module _ {M E : Type 0} (facts : M → MatcherFacts E) (first_at : M → List �
       let progress = made.before.format.progress in
       let at-end : call_text config progress scene made.last.call made.last.parts ≡ [] =
       ap (λ (call : Call). call_text config progress scene call made.last.parts) made.last_is
-      ∙ (ap (λ (b : Option ℕ). call_text config progress scene (finishes plan.finish.count b)
-      made.last.parts) no-end
-      ∙ end-none config progress scene plan.finish.count made.last.parts) in
+      ∙ end-none config progress scene made.bytes made.last.parts in
       let sum : 0 + length found ≡ length found = omega arith in (
         made.text_is ∙ (ap (λ (t : List ℕ). texts ++ t) at-end ∙ append-nil texts),
         counted.found_is

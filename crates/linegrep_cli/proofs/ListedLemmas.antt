@@ -1,8 +1,8 @@
 -- What a run has written that lists files, if nothing failed.
-use Rattle.std.proofs.Common.{◌≡◌, ◌∙◌, ◌⊎◌, ℕ, Bool, true, false, List, [], ◌∷◌, ◌++◌, ap, append_assoc, inl, inr, refl}
-use Rattle.std.proofs.Common.{map, subst, subst₂, sym, true≢false, zero-lt-suc}
+use Rattle.std.proofs.Common.{◌≡◌, ◌∙◌, ◌⊎◌, ℕ, Bool, true, false, List, [], ◌∷◌, ◌++◌, ap, ap₂, append_assoc, inl, inr}
+use Rattle.std.proofs.Common.{map, refl, subst, subst₂, sym, true≢false, zero-lt-suc}
 use Rattle.std.proofs.lemmas.Bool.{lt-ltb}
-use Rattle.std.specs.Prelude.{◌≢◌, ◌&&◌, ◌||◌, MatchBool, MatchResult, None, Option, Some, Result, Ok, Err, codes}
+use Rattle.std.specs.Prelude.{◌&&◌, ◌||◌, MatchBool, MatchResult, None, Option, Some, Result, Ok, Err, codes}
 use Rattle.std.specs.Prelude.{if◌then◌else◌, is_ok, length, nat_lt, not, string_bytes}
 use Rattle.std.specs.Borrow.{Bor}
 use Rattle.std.specs.Global.{Global}
@@ -29,7 +29,7 @@ use Rattle.linegrep_cli.specs.HyperlinkOptions.{IsPathShown}
 use Rattle.linegrep_cli.specs.ListedFiles.{AreListed, ArePathTexts, IsPath, listed_path, next_path, path_at}
 use Rattle.linegrep_cli.specs.Listings.{IsListed as IsPathListed, IsListerStep}
 use Rattle.linegrep_cli.specs.OperandRuns.{AreAllVisited, AreVisitedInOrder, AreVisitedLate, AreWaitingVisited}
-use Rattle.linegrep_cli.specs.OperandRuns.{IsInputVisited, IsListed, IsWaitingVisited, has_found}
+use Rattle.linegrep_cli.specs.OperandRuns.{IsInputVisited, IsListed, IsWaitingVisited, ends_with_match, has_found}
 use Rattle.linegrep_cli.specs.OperandRuns.{next_waiting, none_waiting, of_searched, of_standard_input, of_unsearched}
 use Rattle.linegrep_cli.specs.OperandRuns.{seeks_unmatched}
 use Rattle.linegrep_cli.specs.WrittenRuns.{HasFailedWith}
@@ -52,9 +52,10 @@ or-true true = refl
 or-true false = refl
 
 -- a run that writes what it finds found something if the search has a match
-found-is : (scope : Scope) → scope.quiet ≡ None → (searched : Searched) → has_found scope searched ≡ searched.has_match
-found-is scope unquiet searched = ap (λ quiet. if seeks_unmatched quiet then is_ok searched.result && not searched.has_match
-    else searched.has_match) unquiet
+found-is : (scope : Scope) → seeks_unmatched scope.quiet ≡ false → (searched : Searched)
+    → has_found scope searched ≡ searched.has_match
+found-is scope sought searched = ap (λ seeks. if seeks then is_ok searched.result && not searched.has_match
+    else searched.has_match) sought
 
 -- the first of two cases
 only : (is : Bool) (P Q : Type 0) → is ≡ true → MatchBool is P Q → P
@@ -68,7 +69,8 @@ end-of F = finishes (Ok tt)
 module _ {S W X : Type 0} (contents : W → Option (List ℕ)) (write_step : W → OutputCall → W → Type 0)
     (grows : (old new : W) (call : OutputCall) → write_step old call new
     → Appends (contents old) (contents new) (taken_by call)) (facts_of : S → FolderFacts) (system : S)
-    (separator : Option ℕ) (hyperlinks : Option (Bor HyperlinkConfig)) (format : PathFormat) (before : List ℕ) where
+    (separator : Option ℕ) (hyperlinks : Option (Bor HyperlinkConfig)) (format : PathFormat) (silent : Bool)
+    (before : List ℕ) where
   abbrev failed : Lister S W X → Bool
   failed lister = lister.printer.has_failed
 
@@ -78,7 +80,7 @@ module _ {S W X : Type 0} (contents : W → Option (List ℕ)) (write_step : W �
     pub text : List ℕ
     pub texts : ArePathTexts (facts_of system) separator hyperlinks format paths text
     pub matched : match ≡ nat_lt 0 (length paths)
-    pub loud : lister.is_quiet ≡ false
+    pub quiet : lister.is_quiet ≡ silent
     pub formats : lister.printer.format ≡ format
     pub separates : lister.path_separator ≡ separator
     pub links : lister.hyperlinks ≡ hyperlinks
@@ -87,63 +89,79 @@ module _ {S W X : Type 0} (contents : W → Option (List ℕ)) (write_step : W �
     pub holds : contents lister.writer ≡ Some held
     pub whole : before ++ text ≡ held ++ pending_bytes lister.printer.pending
 
-  module _ (F : Type 0) (scope : Scope) (unquiet : scope.quiet ≡ None) where
+  module _ (F : Type 0) (scope : Scope) (sought : seeks_unmatched scope.quiet ≡ false)
+      (ends : silent ≡ true → ends_with_match scope.quiet ≡ true) where
     abbrev Step : Lister S W X → EngineCall F → Lister S W X → Type 0
     Step = IsListerStep write_step facts_of
 
+    -- each path counts as a match
+    path-matched : (path : Bor (List ℕ)) (old new : Lister S W X) (searched : Searched)
+        → IsPathListed write_step facts_of old path searched new → searched.result ≡ Ok tt
+        → searched.has_match ≡ true
+    path-matched path old new searched (inr (has, (none, (error, memory, is)), same)) ok =
+        absurd (not-both searched.result tt _ ok is)
+    path-matched path old new searched (inl (shown, shows, is)) ok = is.has_match ∙ ap is_ok ok
+
     -- a path is written
     path-put : (path : Bor (List ℕ)) (quits : Bool) (paths : List (List ℕ)) (match : Bool) (old new : Lister S W X)
-        (searched : Searched) → IsPathListed write_step facts_of old path searched new → searched.result ≡ Ok tt
-        → Has quits paths match old
-        → (searched.has_match ≡ true) × Has quits (paths ++ path.now ∷ []) true new
-    path-put path quits paths match old new searched (inr (has, (none, (error, memory, is)), same)) ok has_them =
+        (searched : Searched) → silent ≡ false → IsPathListed write_step facts_of old path searched new
+        → searched.result ≡ Ok tt → Has quits paths match old → Has quits (paths ++ path.now ∷ []) true new
+    path-put path quits paths match old new searched loud (inr (has, (none, (error, memory, is)), same)) ok has_them =
         absurd (not-both searched.result tt _ ok is)
-    path-put path quits paths match old new searched (inl (shown, shows, is)) ok has =
+    path-put path quits paths match old new searched loud (inl (shown, shows, is)) ok has =
         let put : PutsText write_step old.writer old.printer (path_text old.printer.format shown) new.writer new.printer
         = subst (λ result. MatchResult result
         (λ _. PutsText write_step old.writer old.printer (path_text old.printer.format shown) new.writer new.printer)
         (λ e. FailsToPutText write_step old.writer old.printer (path_text old.printer.format shown) e new.writer
-        new.printer)) ok (unless old.is_quiet _ _ has.loud is.written) in
+        new.printer)) ok (unless old.is_quiet _ _ (has.quiet ∙ loud) is.written) in
         let (now, holds, same) = text-put contents write_step grows old.writer new.writer has.held
         (pending_bytes old.printer.pending) (path_text old.printer.format shown) (pending_bytes new.printer.pending)
-        has.holds put.put in (
-          is.has_match ∙ ap is_ok ok,
-          record {
-            text = has.text ++ path_text format shown;
-            texts = next_path path shown has.texts
-                (subst (λ l. IsPathShown (facts_of system) separator l (Some path) (Some shown)) has.links
-                (subst₂ (λ s (x : S). IsPathShown (facts_of x) s old.hyperlinks (Some path) (Some shown)) has.separates
-                has.asks_system shows));
-            matched = sym (one-more paths path.now);
-            loud = ap (λ (l : Lister S W X). l.is_quiet) is.others ∙ has.loud;
-            formats = put.format ∙ has.formats;
-            separates = ap (λ (l : Lister S W X). l.path_separator) is.others ∙ has.separates;
-            links = ap (λ (l : Lister S W X). l.hyperlinks) is.others ∙ has.links;
-            asks_system = ap (λ (l : Lister S W X). l.system.now) is.others ∙ has.asks_system;
-            held = now;
-            holds = holds;
-            whole = sym (append_assoc before has.text (path_text format shown))
-                ∙ (ap (λ all. all ++ path_text format shown) has.whole
-                ∙ (append_assoc has.held (pending_bytes old.printer.pending) (path_text format shown)
-                ∙ (ap (λ (f : PathFormat). has.held ++ (pending_bytes old.printer.pending ++ path_text f shown))
-                (sym has.formats) ∙ same)));
-          },
-        )
+        has.holds put.put in
+        record {
+          text = has.text ++ path_text format shown;
+          texts = next_path path shown has.texts
+              (subst (λ l. IsPathShown (facts_of system) separator l (Some path) (Some shown)) has.links
+              (subst₂ (λ s (x : S). IsPathShown (facts_of x) s old.hyperlinks (Some path) (Some shown)) has.separates
+              has.asks_system shows));
+          matched = sym (one-more paths path.now);
+          quiet = ap (λ (l : Lister S W X). l.is_quiet) is.others ∙ has.quiet;
+          formats = put.format ∙ has.formats;
+          separates = ap (λ (l : Lister S W X). l.path_separator) is.others ∙ has.separates;
+          links = ap (λ (l : Lister S W X). l.hyperlinks) is.others ∙ has.links;
+          asks_system = ap (λ (l : Lister S W X). l.system.now) is.others ∙ has.asks_system;
+          held = now;
+          holds = holds;
+          whole = sym (append_assoc before has.text (path_text format shown))
+              ∙ (ap (λ all. all ++ path_text format shown) has.whole
+              ∙ (append_assoc has.held (pending_bytes old.printer.pending) (path_text format shown)
+              ∙ (ap (λ (f : PathFormat). has.held ++ (pending_bytes old.printer.pending ++ path_text f shown))
+              (sym has.formats) ∙ same)));
+        }
 
     -- a file is listed
     listed : (path : Bor (List ℕ)) (quits : Bool) (paths : List (List ℕ)) (match : Bool) (old : Lister S W X)
-        (visit : Visit) (new : Lister S W X) → IsListed Step failed scope path old visit new → IsGood visit
+        (visit : Visit) (new : Lister S W X) → IsListed Step failed scope path old visit new → IsGood scope visit
         → Has quits paths match old → Has quits (paths ++ path.now ∷ []) (match || visit.has_match) new
-    listed path quits paths match old visit new (searched, mid, listing, after) good has =
-        let (ok, same) = search-ended Step failed scope mid new searched.result visit after.ended good in
-        let (is_match, now) = path-put path quits paths match old mid searched listing ok has in
-        subst (λ m. Has quits (paths ++ path.now ∷ []) m new)
-        (sym (ap (λ m. match || m) (after.matched ∙ found-is scope unquiet searched ∙ is_match) ∙ or-true match))
-        (subst (Has quits (paths ++ path.now ∷ []) true) (sym same) now)
+    listed path quits paths match old visit new (searched, mid, listing, after) good has = by silent refl
+      where
+        well : (searched.result ≡ Ok tt) × (new ≡ mid)
+        well = search-ended Step failed scope mid new searched.result visit after.ended good
+
+        matched : visit.has_match ≡ true
+        matched = after.matched ∙ found-is scope sought searched
+            ∙ path-matched path old mid searched listing well.0
+
+        by : (is : Bool) → silent ≡ is → Has quits (paths ++ path.now ∷ []) (match || visit.has_match) new
+        by true silently = absurd (true≢false (sym (ap₂ (λ ends match. ends && match) (ends silently) matched)
+            ∙ good.goes_on))
+        by false loud = subst (λ m. Has quits (paths ++ path.now ∷ []) m new)
+            (sym (ap (λ m. match || m) matched ∙ or-true match))
+            (subst (Has quits (paths ++ path.now ∷ []) true) (sym well.1)
+            (path-put path quits paths match old mid searched loud listing well.0 has))
 
     module _ (reads : scope.lists_input ≡ true) where
       input-listed : (paths : List (List ℕ)) (match : Bool) (old : Lister S W X) (visit : Visit) (new : Lister S W X)
-          → IsInputVisited Step failed scope old visit new → IsGood visit → Has false paths match old
+          → IsInputVisited Step failed scope old visit new → IsGood scope visit → Has false paths match old
           → Has false (paths ++ codes "<stdin>" ∷ []) (match || visit.has_match) new
       input-listed paths match old visit new visited good has =
           let (name, is_name, is) = only scope.lists_input _ _ reads visited in
@@ -156,7 +174,7 @@ module _ {S W X : Type 0} (contents : W → Option (List ℕ)) (write_step : W �
         text = has.text;
         texts = has.texts;
         matched = has.matched;
-        loud = ap (λ (l : Lister S W X). l.is_quiet) is.others ∙ has.loud;
+        quiet = ap (λ (l : Lister S W X). l.is_quiet) is.others ∙ has.quiet;
         formats = is.flushed.format ∙ has.formats;
         separates = ap (λ (l : Lister S W X). l.path_separator) is.others ∙ has.separates;
         links = ap (λ (l : Lister S W X). l.hyperlinks) is.others ∙ has.links;
@@ -184,7 +202,7 @@ module _ {S W X : Type 0} (contents : W → Option (List ℕ)) (write_step : W �
             text = has.text;
             texts = has.texts;
             matched = has.matched;
-            loud = has.loud;
+            quiet = has.quiet;
             formats = has.formats;
             separates = has.separates;
             links = has.links;
@@ -199,7 +217,7 @@ module _ {S W X : Type 0} (contents : W → Option (List ℕ)) (write_step : W �
         -- what waited was listed
         waiting-listed : (paths : List (List ℕ)) (match : Bool) (waiting : Waiting) (old : Lister S W X) (visit : Visit)
             (new : Lister S W X) → IsWaitingVisited opens identifies Step failed scope waiting old visit new
-            → IsGood visit → Has false paths match old
+            → IsGood scope visit → Has false paths match old
             → Has false (paths ++ listed_path waiting ∷ []) (match || visit.has_match) new
         waiting-listed paths match waiting old visit new (of_standard_input target visited) good has =
             subst (λ path. Has false (paths ++ path ∷ []) (match || visit.has_match) new)
@@ -211,7 +229,7 @@ module _ {S W X : Type 0} (contents : W → Option (List ℕ)) (write_step : W �
             (is ∙ sym (ap (λ t. path_at t (string_bytes waiting.file.path)) target)) (listed path false paths match old visit new visited good has)
 
         all-waiting-listed : (old : Lister S W X) (done : List Waiting) (total : Visit) (new : Lister S W X)
-            → AreWaitingVisited opens identifies Step failed scope old done total new → IsGood total
+            → AreWaitingVisited opens identifies Step failed scope old done total new → IsGood scope total
             → Has false [] false old → Has false (map listed_path done) total.has_match new
         all-waiting-listed old _ _ _ none_waiting good has = has
         all-waiting-listed old _ _ new (next_waiting done total next {mid} waiting before on visited) good has =
@@ -225,7 +243,7 @@ module _ {S W X : Type 0} (contents : W → Option (List ℕ)) (write_step : W �
         pub ordered-listed : (folders : FolderFacts) (finds : List ℕ → Result Bool Error → Type 0) (choices : Choices)
             (paths : List (Bor (List ℕ))) (old : Lister S W X) (total : Visit) (new : Lister S W X)
             → AreVisitedInOrder folders finds opens identifies Step failed scope choices paths old total new
-            → IsGood total → Has false [] false old
+            → IsGood scope total → Has false [] false old
             → (found : List (List ℕ)) × AreListed folders finds scope choices paths found
             × Has false found total.has_match new
         ordered-listed folders finds choices paths old total new visited good has = by (is_late scope.order) visited
@@ -240,12 +258,12 @@ module _ {S W X : Type 0} (contents : W → Option (List ℕ)) (write_step : W �
                 paths found)
                 × Has false found total.has_match new
             by true visited =
-                let is = late-visited folders finds opens identifies Step failed scope unquiet (Has false [] false)
+                let is = late-visited folders finds opens identifies Step failed scope (Has false [] false)
                 (λ sorted match searched new. Has false (map listed_path sorted) match new)
                 (λ count old new said has. said-found IsPath Step failed scope Has keep false [] false old count None new
                 said refl has) all-waiting-listed choices paths old total new visited good has in
                 (map listed_path is.sorted, (is.sorted, is.are_sorted, refl), is.gives)
-            by false visited = all-found IsPath folders finds opens identifies Step failed scope Has keep all unquiet
+            by false visited = all-found IsPath folders finds opens identifies Step failed scope Has keep all
                 choices paths old total new visited good has
 
   -- a lister whose writer hasn't failed
@@ -319,8 +337,8 @@ module _ {S W X : Type 0} (contents : W → Option (List ℕ)) (write_step : W �
     -- what is sound stays so, unless the writer fails
     pub calls-keep : CallsKeep Steps failed IsSound IsCut
     calls-keep = record {
-      file = λ old new path file searched same sound. same-sound old new searched same sound;
-      input = λ old new path searched same sound. same-sound old new searched same sound;
+      file = λ old new path file searched (none, same) sound. same-sound old new searched same sound;
+      input = λ old new path searched (none, same) sound. same-sound old new searched same sound;
       list = listed-sound;
       text = flush-sound;
       quits = λ old new quits same sound. ap failed same ∙ sound;

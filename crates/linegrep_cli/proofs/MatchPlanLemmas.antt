@@ -2,7 +2,7 @@
 use Rattle.std.proofs.Common.{◌≡◌, ◌∙◌, ℕ, ◌+◌, ◌-◌, ◌<◌, Bool, true, false, List, [], ◌∷◌}
 use Rattle.std.proofs.Common.{None, Some, ap, arith, if◌then◌else◌, refl, sym}
 use Rattle.std.proofs.lemmas.Bool.{lt-leb, ltb-true}
-use Rattle.std.proofs.lemmas.List.Elements.{All-cons, All-map, All-nil}
+use Rattle.std.proofs.lemmas.List.Elements.{All-cons, All-map, All-nil, All-weaker}
 use Rattle.std.specs.Prelude.{◌&&◌, All, nat_le, nat_lt}
 use Rattle.grep_definitions.proofs.BelowLemmas.{some_below-none}
 use Rattle.grep_definitions.proofs.ListLemmas.{All-joined_from, filter-all}
@@ -26,9 +26,9 @@ pub record ReportsMatches (settings : Settings) : Type 0 where
   pub before : settings.before_context ≡ 0
   pub few : settings.passthru ≡ false
 
--- a planned call reports a match
+-- a planned call reports a match. If the search ends there, it has seen no binary byte
 abbrev pub IsMatch : Planned → Type 0
-IsMatch one = is_match one.call ≡ true
+IsMatch one = (is_match one.call ≡ true) × (one.if_false.binary ≡ None)
 
 -- a plan is `begin` and some matches
 pub record IsMatchPlan (plan : Plan) (found : List Call) : Type 0 where
@@ -77,7 +77,7 @@ module _ (k : Settings) (meaning : Meaning) (bytes : List ℕ) (alone : ReportsM
   report-matched i false true passthru selected trailing off out plain = absurd cc
   report-matched i false false true selected trailing off out plain = absurd cc
   report-matched i false false false true trailing off out plain =
-      All-cons IsMatch _ [] refl (All-nil IsMatch)
+      All-cons IsMatch _ [] (refl, refl) (All-nil IsMatch)
   report-matched i false false false false trailing off out plain = All-nil IsMatch
 
   calls-matched : (i : ℕ) → All IsMatch (calls_at k bytes selection i)
@@ -110,7 +110,8 @@ module _ (k : Settings) (meaning : Meaning) (bytes : List ℕ) (alone : ReportsM
         matched = all-matched;
         found_is =
             sym (filter-all is_match (calls_of later)
-            (All-map (λ call. is_match call ≡ true) (λ (one : Planned). one.call) later all-matched))
+            (All-map (λ call. is_match call ≡ true) (λ (one : Planned). one.call) later
+            (All-weaker IsMatch (λ one. is_match one.call ≡ true) (λ one is. is.0) later all-matched)))
             ∙ (sym (ap (λ (p : Plan). match_calls p.calls) plan)
             ∙ lines-are_filtered k meaning bytes by_line alone.filter);
         binary = ap (λ (p : Plan). p.finish.binary) plan;

@@ -1,5 +1,5 @@
 -- A run that has searched one input, by options that change nothing of how its lines are written.
-use Rattle.std.proofs.Common.{◌≡◌, ◌∙◌, Bool, true, false, List, Option}
+use Rattle.std.proofs.Common.{◌≡◌, ◌∙◌, Bool, true, false, List, [], ◌∷◌, Option}
 use Rattle.std.proofs.Common.{None, Some, ap, ap₂, refl, subst}
 use Rattle.std.proofs.Math.Bool.{and-false}
 use Rattle.std.specs.Borrow.{Bor}
@@ -13,17 +13,17 @@ use Rattle.grep_printer.specs.declared.colors.ColorTexts.{ColorTexts}
 use Rattle.grep_printer.specs.declared.config.Config.{Config}
 use Rattle.grep_printer.specs.declared.separators.Separators.{Separators}
 use Rattle.grep_printer.specs.declared.summary_builder.SummaryKind.TheVariants.{Count as CountKind}
+use Rattle.grep_printer.specs.declared.summary_builder.SummaryKind.TheVariants.{PathWithMatch}
 use Rattle.grep_regex.specs.Groups.{group_names}
 use Rattle.grep_regex.specs.Views.{regex_options, regex_patterns}
 use Rattle.grep_regex.specs.declared.regex.Regex.{Regex}
 use Rattle.grep_replace.specs.declared.template.Template.{Template}
-use Rattle.linegrep_cli.proofs.PlainSettingLemmas.{IsRefused}
 use Rattle.linegrep_cli.proofs.PlainTextLemmas.{WritesLines}
-use Rattle.linegrep_cli.proofs.UnusedOptionLemmas.{AreOthers, has-none, number-none, others, value-none}
-use Rattle.linegrep_cli.specs.Corollaries.{UseOnly}
+use Rattle.linegrep_cli.proofs.UnusedOptionLemmas.{AreOthers, AreRefused, not-used, number-none, other-uses, value-none}
+use Rattle.linegrep_cli.specs.Corollaries.{UseOnly, is_among}
 use Rattle.linegrep_cli.specs.OptionUses.{has}
 use Rattle.linegrep_cli.specs.PrinterOptions.{color_choice, counts_all, is_vimgrep, line_settings}
-use Rattle.linegrep_cli.specs.PrinterOptions.{shows_headings, summary_kind}
+use Rattle.linegrep_cli.specs.PrinterOptions.{path_terminator_of, shows_headings, summary_kind}
 use Rattle.linegrep_cli.specs.SeparatorOptions.{AreLent, asks_for_separators}
 use Rattle.linegrep_cli.specs.TemplateOptions.{IsReadFrom, IsTemplateLent}
 use Rattle.linegrep_cli.specs.TerminalColors.{colors_for}
@@ -41,67 +41,75 @@ use Rattle.linegrep_options.specs.declared.option_id.OptionId.TheVariants.{Headi
 use Rattle.linegrep_options.specs.declared.option_id.OptionId.TheVariants.{InvertMatch}
 use Rattle.linegrep_options.specs.declared.option_id.OptionId.TheVariants.{Json, MaxColumns}
 use Rattle.linegrep_options.specs.declared.option_id.OptionId.TheVariants.{NoContextSeparator, NoHeading}
+use Rattle.linegrep_options.specs.declared.option_id.OptionId.TheVariants.{Null}
 use Rattle.linegrep_options.specs.declared.option_id.OptionId.TheVariants.{OnlyMatching, Pretty}
 use Rattle.linegrep_options.specs.declared.option_id.OptionId.TheVariants.{Quiet, Replace, Stats}
 use Rattle.linegrep_options.specs.declared.option_id.OptionId.TheVariants.{Trim, Vimgrep}
 
--- none is allowed that asks for something else than lines as they are
-pub record KeepLook (allowed : List OptionId) : Type 0 where
-  pub quiet : IsRefused allowed Quiet
-  pub count : IsRefused allowed Count
-  pub count_matches : IsRefused allowed CountMatches
-  pub with_matches : IsRefused allowed FilesWithMatches
-  pub without_match : IsRefused allowed FilesWithoutMatch
+-- the options that ask for something else than lines
+abbrev pub look_options : List OptionId
+look_options = Quiet ∷ Count ∷ CountMatches ∷ FilesWithMatches ∷ FilesWithoutMatch ∷ []
 
--- none is allowed that asks for something else than a count of lines
-pub record KeepCount (allowed : List OptionId) : Type 0 where
-  pub quiet : IsRefused allowed Quiet
-  pub count_matches : IsRefused allowed CountMatches
-  pub zero : IsRefused allowed IncludeZero
+abbrev pub KeepLook : List OptionId → Type 0
+KeepLook allowed = AreRefused allowed look_options
 
--- nor one that changes how each line looks
-pub record KeepText (allowed : List OptionId) : Type 0 where
-  pub json : IsRefused allowed Json
-  pub vimgrep : IsRefused allowed Vimgrep
-  pub only_matching : IsRefused allowed OnlyMatching
-  pub replace : IsRefused allowed Replace
-  pub heading : IsRefused allowed Heading
-  pub pretty : IsRefused allowed Pretty
-  pub color : IsRefused allowed Color
-  pub column : IsRefused allowed Column
-  pub offset : IsRefused allowed ByteOffset
-  pub max_columns : IsRefused allowed MaxColumns
-  pub trim : IsRefused allowed Trim
-  pub stats : IsRefused allowed Stats
-  pub context_separator : IsRefused allowed ContextSeparator
-  pub no_context_separator : IsRefused allowed NoContextSeparator
-  pub match_separator : IsRefused allowed FieldMatchSeparator
-  pub field_separator : IsRefused allowed FieldContextSeparator
+-- the options that ask for something else than a count of lines
+abbrev pub count_options : List OptionId
+count_options = Quiet ∷ CountMatches ∷ IncludeZero ∷ []
+
+abbrev pub KeepCount : List OptionId → Type 0
+KeepCount allowed = AreRefused allowed count_options
+
+-- the options that ask for something else than the path of a file with a match
+abbrev pub path_options : List OptionId
+path_options = Quiet ∷ Count ∷ CountMatches ∷ Null ∷ []
+
+abbrev pub KeepPath : List OptionId → Type 0
+KeepPath allowed = AreRefused allowed path_options
+
+-- the options that change how each line looks
+abbrev pub text_options : List OptionId
+text_options = Json ∷ Vimgrep ∷ OnlyMatching ∷ Replace ∷ Heading ∷ Pretty ∷ Color ∷ Column
+    ∷ ByteOffset ∷ MaxColumns ∷ Trim ∷ Stats ∷ ContextSeparator ∷ NoContextSeparator
+    ∷ FieldMatchSeparator ∷ FieldContextSeparator ∷ []
+
+abbrev pub KeepText : List OptionId → Type 0
+KeepText allowed = AreRefused allowed text_options
 
 module _ (allowed : List OptionId) (options : Options) (only : UseOnly allowed options)
     (text : KeepText allowed) where
-  none : (option : OptionId) → IsRefused allowed option → has options option ≡ false
-  none option refused = has-none allowed options only option refused
+  none : (option : OptionId) → is_among text_options option ≡ true → has options option ≡ false
+  none = not-used allowed options only text_options text
 
-  no-value : (option : OptionId) → IsRefused allowed option → AreOthers option only.uses.now
-  no-value option refused = others allowed options only option refused
+  no-value : (option : OptionId) → is_among text_options option ≡ true
+      → AreOthers option only.uses.now
+  no-value = other-uses allowed options only text_options text
+
+  -- what asks for a summary
+  no-look : KeepLook allowed → (option : OptionId) → is_among look_options option ≡ true
+      → has options option ≡ false
+  no-look = not-used allowed options only look_options
+
+  no-other-count : KeepCount allowed → (option : OptionId) → is_among count_options option ≡ true
+      → has options option ≡ false
+  no-other-count = not-used allowed options only count_options
 
   pub no-terminal : options.streams.is_terminal ≡ false
   no-terminal = ap (λ (s : Streams). s.is_terminal) only.are_options.streams_are ∙ only.no_terminal
 
   pub not-vimgrep : is_vimgrep options ≡ false
-  not-vimgrep = rw (none Vimgrep text.vimgrep) refl
+  not-vimgrep = rw (none Vimgrep refl) refl
 
   pub not-json : has options Json ≡ false
-  not-json = none Json text.json
+  not-json = none Json refl
 
   pub not-counted : counts_all options ≡ false
-  not-counted = rw (none Stats text.stats) refl
+  not-counted = rw (none Stats refl) refl
 
   -- lines have no color
   pub no-color : (chosen : Option (Bor ColorTexts))
       → colors_for chosen (color_choice options) options.streams ≡ Plain
-  no-color chosen = rw (none Color text.color, none Pretty text.pretty, no-terminal) refl
+  no-color chosen = rw (none Color refl, none Pretty refl, no-terminal) refl
 
   -- there are no separators but the usual ones
   pub no-separators : (separators : Option (Bor Separators)) → AreLent options separators
@@ -111,13 +119,13 @@ module _ (allowed : List OptionId) (options : Options) (only : UseOnly allowed o
       let unasked : asks_for_separators options ≡ false =
       rw (
         only.are_options.field_match_separator
-            ∙ value-none only.uses.now FieldMatchSeparator (no-value FieldMatchSeparator text.match_separator),
+            ∙ value-none only.uses.now FieldMatchSeparator (no-value FieldMatchSeparator refl),
         only.are_options.field_context_separator
             ∙ value-none only.uses.now FieldContextSeparator
-            (no-value FieldContextSeparator text.field_separator),
+            (no-value FieldContextSeparator refl),
         only.are_options.context_separator
-            ∙ value-none only.uses.now ContextSeparator (no-value ContextSeparator text.context_separator),
-        none NoContextSeparator text.no_context_separator,
+            ∙ value-none only.uses.now ContextSeparator (no-value ContextSeparator refl),
+        none NoContextSeparator refl,
       ) refl in
       absurd (clash are.0 unasked)
 
@@ -127,17 +135,17 @@ module _ (allowed : List OptionId) (options : Options) (only : UseOnly allowed o
   no-template regex None is = refl
   no-template regex (Some template) is =
       let unasked : options.replace ≡ None =
-      only.are_options.replace ∙ value-none only.uses.now Replace (no-value Replace text.replace) in
+      only.are_options.replace ∙ value-none only.uses.now Replace (no-value Replace refl) in
       absurd (subst (λ text. IsReadFrom (group_names (regex_options regex) (regex_patterns regex)) text
       template.now) unasked is)
 
   no-heading : shows_headings options ≡ false
-  no-heading = rw (none Heading text.heading, none Pretty text.pretty, no-terminal)
+  no-heading = rw (none Heading refl, none Pretty refl, no-terminal)
       (and-false (not (has options NoHeading) && not (has options Vimgrep)))
 
   no-limit : options.max_columns ≡ None
   no-limit = only.are_options.max_columns
-      ∙ number-none only.uses.now MaxColumns (no-value MaxColumns text.max_columns)
+      ∙ number-none only.uses.now MaxColumns (no-value MaxColumns refl)
 
   -- lines are written as they are
   pub plain-lines : (colors : ColorSpecs) (separators : Option (Bor Separators)) (config : Config)
@@ -148,14 +156,14 @@ module _ (allowed : List OptionId) (options : Options) (only : UseOnly allowed o
       is ∙ ap₂ (line_settings options) plain usual in record {
         plain = ap₂ is_plain same nameless ∙ rw (
           no-heading,
-          none Column text.column,
-          none Vimgrep text.vimgrep,
-          none ByteOffset text.offset,
+          none Column refl,
+          none Vimgrep refl,
+          none ByteOffset refl,
           no-limit,
-          none Trim text.trim,
+          none Trim refl,
         )
             refl;
-        whole = ap (λ (c : Config). c.only_matching) same ∙ none OnlyMatching text.only_matching;
+        whole = ap (λ (c : Config). c.only_matching) same ∙ none OnlyMatching refl;
         no_heading = ap (λ (c : Config). c.heading) same ∙ no-heading;
       }
 
@@ -163,26 +171,47 @@ module _ (allowed : List OptionId) (options : Options) (only : UseOnly allowed o
   pub no-summary : KeepLook allowed → (across : Bool)
       → summary_kind options across ≡ None
   no-summary look across = rw (
-    none Quiet look.quiet,
-    none CountMatches look.count_matches,
-    none Count look.count,
+    no-look look Quiet refl,
+    no-look look CountMatches refl,
+    no-look look Count refl,
     and-false (not (has options InvertMatch)),
-    none FilesWithMatches look.with_matches,
-    none FilesWithoutMatch look.without_match,
+    no-look look FilesWithMatches refl,
+    no-look look FilesWithoutMatch refl,
   ) refl
 
   -- how many lines match is written, in a search by line
   pub count-kind : KeepCount allowed → has options Count ≡ true
       → (across : Bool) → across ≡ false → summary_kind options across ≡ Some CountKind
   count-kind look counts across by-line = rw (
-    none Quiet look.quiet,
-    none CountMatches look.count_matches,
+    no-other-count look Quiet refl,
+    no-other-count look CountMatches refl,
     counts,
-    none OnlyMatching text.only_matching,
+    none OnlyMatching refl,
     by-line,
     and-false (not (has options InvertMatch)),
   ) refl
 
   -- a count of 0 isn't written
   pub without-zero : KeepCount allowed → has options IncludeZero ≡ false
-  without-zero look = none IncludeZero look.zero
+  without-zero look = no-other-count look IncludeZero refl
+
+module _ (allowed : List OptionId) (options : Options) (only : UseOnly allowed options)
+    (look : KeepPath allowed) where
+  no-other-path : (option : OptionId) → is_among path_options option ≡ true
+      → has options option ≡ false
+  no-other-path = not-used allowed options only path_options look
+
+  -- the path of a file with a match is written
+  pub path-kind : has options FilesWithMatches ≡ true → (across : Bool) → across ≡ false
+      → summary_kind options across ≡ Some PathWithMatch
+  path-kind lists across by-line = rw (
+    no-other-path Quiet refl,
+    no-other-path CountMatches refl,
+    no-other-path Count refl,
+    lists,
+    and-false (not (has options InvertMatch)),
+  ) refl
+
+  -- a line feed comes after it
+  pub without-null : path_terminator_of options ≡ None
+  without-null = rw (no-other-path Null refl) refl

@@ -115,7 +115,7 @@ module _ (scene : Scene) where
 
   pub standard-steps : (HasParts : CountedFormat StandardFormat → PrintedCall → Type 0)
       → AreSteps (counted_rules standard_rules) scene HasParts IsPlainFormat
-      (plain-text (byte_of scene.settings.line_terminator))
+      (plain-text (byte_of scene.settings.line_terminator)) true
   standard-steps HasParts = record {
     begin = λ counted printed good is. record {
       goes = ap (goes_on counted.format.progress scene.settings.binary_detection) is;

@@ -1,7 +1,7 @@
 -- What a whole run has written whose status isn't 2.
 use Rattle.std.proofs.Common.{◌≡◌, ◌∙◌, ℕ, Bool, true, false, List, [], ◌++◌, ap, refl, subst, sym}
 use Rattle.std.proofs.Common.{◌⊎◌, inl, inr, true≢false}
-use Rattle.std.specs.Prelude.{◌≢◌, ◌&&◌, None, Option, Some, Result, Ok, Err, Vec}
+use Rattle.std.specs.Prelude.{◌≢◌, ◌&&◌, None, Option, Some, Result, Ok, Err, Vec, not}
 use Rattle.std.specs.Prelude.{if◌then◌else◌}
 use Rattle.std.specs.Borrow.{Bor}
 use Rattle.std.specs.Global.{Global}
@@ -9,6 +9,7 @@ use Rattle.std.specs.declared.alloc.AllocError.{AllocError}
 use Rattle.std.specs.declared.io.Error.{Error}
 use Rattle.std.specs.Io.KnownBytes.{Appends}
 use Rattle.grep_output.specs.Outputs.{OutputCall, taken_by}
+use Rattle.grep_output.specs.PendingTexts.{Flushes}
 use Rattle.grep_printer.specs.declared.colors.ColorSpecs.{ColorSpecs}
 use Rattle.grep_printer.specs.declared.printer.Printer.{Printer as Writer}
 use Rattle.grep_printer.specs.declared.separators.Separators.{Separators}
@@ -27,31 +28,32 @@ use Rattle.linegrep_cli.proofs.PrinterTextLemmas.{IsPrinterAfter, IsRunAfter, Is
 use Rattle.linegrep_cli.proofs.PrinterTotalLemmas.{after-unfailed}
 use Rattle.linegrep_cli.proofs.LateTextLemmas.{ordered-visited}
 use Rattle.linegrep_cli.proofs.ListingTextLemmas.{listing-written}
-use Rattle.linegrep_cli.proofs.RunEndLemmas.{IsWhole, good-status, none-if, run-ended}
+use Rattle.linegrep_cli.proofs.RunEndLemmas.{IsGoodEnd, IsWhole, good-end, run-ended, visits-or-not}
 use Rattle.linegrep_cli.proofs.VisitSoundLemmas.{CallsKeep}
 use Rattle.linegrep_cli.proofs.VisitTextLemmas.{StepsKeep, said-all}
 use Rattle.linegrep_cli.specs.EngineCalls.{EngineCall, finishes}
 use Rattle.linegrep_cli.specs.EngineSteps.{has_failed}
-use Rattle.linegrep_cli.specs.OperandRuns.{status_of}
+use Rattle.linegrep_cli.specs.OperandRuns.{seeks_unmatched}
 use Rattle.linegrep_cli.specs.OptionMeanings.{paths_of}
 use Rattle.linegrep_cli.specs.OptionUses.{has}
 use Rattle.linegrep_cli.specs.PathSeparators.{path_separator_of}
-use Rattle.linegrep_cli.specs.PrinterOptions.{IsNew, IsNewRun, IsPrinterFor}
+use Rattle.linegrep_cli.specs.PrinterOptions.{IsNew, IsNewRun, IsPrinterFor, counts_all}
 use Rattle.linegrep_cli.specs.PrintingEngines.{IsEngineStep, detection_with}
 use Rattle.linegrep_cli.specs.ProgramRuns.{without_memory}
-use Rattle.linegrep_cli.specs.ProgramRuns.{IsAnswered, IsOptionsRun, IsProgramRun}
+use Rattle.linegrep_cli.specs.ProgramRuns.{HasAnswerStatus, IsAnswered, IsOptionsRun, IsProgramRun}
 use Rattle.linegrep_cli.specs.ProgramRuns.{no_memory}
 use Rattle.linegrep_cli.specs.ProgramRuns.{of_fault, of_listing as OfListing, of_options, of_parsed, of_refusal}
 use Rattle.linegrep_cli.specs.ProgramRuns.{of_search as OfSearch}
 use Rattle.linegrep_cli.specs.ProgramRuns.{of_text, of_types}
 use Rattle.linegrep_cli.specs.ProgramRuns.{out_of_memory}
 use Rattle.linegrep_cli.specs.RunInputs.{AreSearched, IsFileInput, IsReaderInput}
+use Rattle.linegrep_cli.specs.RunScopes.{quiet_of}
 use Rattle.linegrep_cli.specs.SearchTexts.{Input, no_findings, no_input, settings_for}
 use Rattle.linegrep_cli.specs.SearcherOptions.{searcher_settings}
-use Rattle.linegrep_cli.specs.WholeRuns.{IsRunFor, IsRunWith, Literal, Named, literal_facts, literal_first_at}
-use Rattle.linegrep_cli.specs.WholeRuns.{literal_groups_at, named_facts, named_first_at, named_groups_at, naming_of}
-use Rattle.linegrep_cli.specs.WrittenRuns.{AreOptionsFor, DoesAsAsked, HasEnded, HasFailedWith, HasListed, HasWritten, IsAnswer}
-use Rattle.linegrep_cli.specs.WrittenRuns.{IsClosed, of_answer, of_listing, of_search}
+use Rattle.linegrep_cli.specs.WholeRuns.{IsRunFor, IsRunWith}
+use Rattle.linegrep_cli.specs.WrittenRuns.{AreOptionsFor, DoesAsAsked, HasEnded, HasFailedWith, HasWritten}
+use Rattle.linegrep_cli.specs.WrittenRuns.{HasWrittenOf, IsAnswer, IsClosed, VisitsAll, of_answer, of_listing, of_search}
+use Rattle.linegrep_cli.specs.Worlds.{World}
 use Rattle.linegrep_cli.specs.declared.counted_run.CountedRun.{CountedRun}
 use Rattle.linegrep_cli.specs.declared.engine.PrintingEngine.{PrintingEngine}
 use Rattle.linegrep_cli.specs.declared.options.Options.{Options}
@@ -60,7 +62,9 @@ use Rattle.linegrep_cli.specs.declared.printers.Printer.TheVariants.{Json, Lines
 use Rattle.linegrep_cli.specs.declared.printers.Printer.TheVariants.{Summary}
 use Rattle.linegrep_cli.specs.declared.program.Streams.{Streams}
 use Rattle.linegrep_cli.specs.declared.scope.Scope.{Scope}
-use Rattle.linegrep_options.specs.declared.option_id.OptionId.TheVariants.{Files, Quiet}
+use Rattle.linegrep_cli.specs.declared.search.Ended.{Ended}
+use Rattle.linegrep_options.specs.declared.option_id.OptionId.TheVariants.{Files, FilesWithoutMatch}
+use Rattle.linegrep_options.specs.declared.option_id.OptionId.TheVariants.{Quiet}
 use Rattle.linegrep_files.specs.FolderFacts.{FolderFacts}
 use Rattle.linegrep_files.specs.declared.file_id.FileId.{FileId}
 
@@ -100,58 +104,99 @@ ends-late settings = ap (λ d. record settings { binary_detection = d }) (by set
     by (Quit byte) = refl
     by (Convert byte) = refl
 
-module _ {S F R W X : Type 0} (output : AllocError → Option (List ℕ)) (contents : W → Option (List ℕ))
-    (write_step : W → OutputCall → W → Type 0) (say_step : X → OutputCall → X → Type 0)
-    (file_remaining : F → Option (List ℕ)) (remaining : R → Option (List ℕ)) (read_step : R → ReadResult → R → Type 0)
-    (facts_of : S → FolderFacts) (system : S) (finds : List ℕ → Result Bool Error → Type 0) (opens : List ℕ → Result F Error → Type 0)
-    (identifies : F → Option FileId → Type 0) (grows : (old new : W) (call : OutputCall) → write_step old call new
-    → Appends (contents old) (contents new) (taken_by call)) (before : List ℕ)
+module _ {S F R W X : Type 0} (message : AllocError → Option (List ℕ)) (world : World S F R W X) (system : S)
+    (grows : (old new : W) (call : OutputCall) → world.output.step old call new
+    → Appends (world.output.contents old) (world.output.contents new) (taken_by call)) (before : List ℕ)
     (options : Options) where
+  abbrev contents : W → Option (List ℕ)
+  contents = world.output.contents
+
+  abbrev write_step : W → OutputCall → W → Type 0
+  write_step = world.output.step
+
+  abbrev file_remaining : F → Option (List ℕ)
+  file_remaining = world.files.remaining
+
+  abbrev remaining : R → Option (List ℕ)
+  remaining = world.input.remaining
+
+  abbrev read_step : R → ReadResult → R → Type 0
+  read_step = world.input.step
+
+  abbrev facts_of : S → FolderFacts
+  facts_of = world.folders.facts
+
+  abbrev finds : List ℕ → Result Bool Error → Type 0
+  finds = world.system.finds system
+
+  abbrev opens : List ℕ → Result F Error → Type 0
+  opens = world.opening.opens system
+
+  abbrev identifies : F → Option FileId → Type 0
+  identifies = world.system.identifies system
+
   abbrev folders : FolderFacts
   folders = facts_of system
 
   -- an answer, unless nobody reads it
-  answered : (text : List ℕ) (writer : W) (status : ℕ) (writer' : W) → contents writer ≡ Some before → status ≢ 2
-      → IsAnswered write_step text writer status writer'
-      → IsClosed write_step writer' ⊎ ((status ≡ 0) × (contents writer' ≡ Some (before ++ text)))
-  answered text writer status writer' held other (Ok u, flushed, is_status) =
-      inr (is_status, all-flushed contents write_step grows writer writer' before text held flushed)
-  answered text writer status writer' held other (Err error, flushed, inl (broken, zero)) =
-      inl (error, broken, flush-failed write_step writer writer' text error flushed)
-  answered text writer status writer' held other (Err error, flushed, inr (whole, two)) = absurd (other two)
+  answered : (text : List ℕ) (input : R) (output : W) (ended : Ended R W) → contents output ≡ Some before
+      → ended.status ≢ 2 → IsAnswered write_step text input output ended
+      → IsClosed write_step ended.output
+      ⊎ ((ended.status ≡ 0) × (contents ended.output ≡ Some (before ++ text)))
+  answered text input output ended held other is = by is.written is.flushed is.status
+    where
+      by : (written : Result (Unit {0}) Error) → Flushes write_step output text written ended.output
+          → HasAnswerStatus written ended.status
+          → IsClosed write_step ended.output
+          ⊎ ((ended.status ≡ 0) × (contents ended.output ≡ Some (before ++ text)))
+      by (Ok u) flushed zero =
+          inr (zero, all-flushed contents write_step grows output ended.output before text held flushed)
+      by (Err error) flushed (inl (broken, zero)) =
+          inl (error, broken, flush-failed write_step output ended.output text error flushed)
+      by (Err error) flushed (inr (whole, two)) = absurd (other two)
 
   module _ {M : Type 0} (facts : M → MatcherFacts AllocError) (first_at : M → List ℕ → ℕ → Option (ℕ × ℕ))
-      (groups_at : M → List ℕ → ℕ → List (Option (ℕ × ℕ))) (regex : Regex) (input : R) (writer : W) (errors : X)
-      (status : ℕ) (input' : R) (writer' : W) (held : contents writer ≡ Some before) (other : status ≢ 2)
-      (loud : has options Quiet ≡ false) (searching : has options Files ≡ false)
-      (run-for : IsRunFor output facts first_at groups_at write_step file_remaining remaining read_step facts_of system finds
-      opens identifies options regex input writer errors status input' writer') where
-    abbrev run : IsRunWith output facts first_at groups_at write_step file_remaining remaining read_step facts_of system
-        finds opens
-        identifies options run-for.matcher run-for.template input writer errors status input' writer'
+      (groups_at : M → List ℕ → ℕ → List (Option (ℕ × ℕ))) (regex : Regex) (input : R) (output : W) (errors : X)
+      (ended : Ended R W) (held : contents output ≡ Some before) (other : ended.status ≢ 2)
+      (visits : VisitsAll options ended.status) (searching : has options Files ≡ false)
+      (run-for : IsRunFor message facts first_at groups_at world system options regex input output errors ended) where
+    abbrev run : IsRunWith message facts first_at groups_at world system options run-for.matcher run-for.template input
+        output errors ended
     run = run-for.run
 
     abbrev settings : Settings
     settings = searcher_settings options
 
     abbrev Step : PrintingEngine S F M R W X → EngineCall F → PrintingEngine S F M R W X → Type 0
-    Step = IsEngineStep output facts first_at groups_at write_step file_remaining remaining read_step facts_of
+    Step = IsEngineStep message facts first_at groups_at write_step file_remaining remaining read_step facts_of
 
     abbrev trusted : (terminator : LineTerminator) → (facts run-for.matcher).is_lawful terminator
     trusted = run-for.is_matcher.trusted
 
     abbrev At : Bool → List Input → Bool → R → PrintingEngine S F M R W X → Type 0
-    At = IsAt output facts first_at groups_at write_step file_remaining remaining read_step contents grows settings
+    At = IsAt message facts first_at groups_at write_step file_remaining remaining read_step contents grows settings
         (path_separator_of options) facts_of system run.first.hyperlinks run-for.matcher trusted run.first.printer before
 
     abbrev Sound : PrintingEngine S F M R W X → Type 0
-    Sound = IsSound output facts first_at groups_at write_step file_remaining remaining read_step contents grows
+    Sound = IsSound message facts first_at groups_at write_step file_remaining remaining read_step contents grows
         settings
         (path_separator_of options) facts_of system run.first.hyperlinks run-for.matcher trusted run.first.printer before
 
-    unquiet : run.scope.quiet ≡ None
-    unquiet = ap (λ (s : Scope). s.quiet) run.is_scope.2
-        ∙ none-if (has options Quiet) _ loud
+    scoped : run.scope.quiet ≡ quiet_of options
+    scoped = ap (λ (s : Scope). s.quiet) run.is_scope.2
+
+    -- a match is what is looked for
+    sought : seeks_unmatched run.scope.quiet ≡ false
+    sought = ap seeks_unmatched scoped ∙ by (has options Quiet) refl visits
+      where
+        by : (quiet : Bool) → has options Quiet ≡ quiet → VisitsAll options ended.status
+            → seeks_unmatched (if quiet then Some (record {
+              seeks_unmatched = has options FilesWithoutMatch && not (has options Files);
+              counts_all = counts_all options && not (has options Files);
+            }) else None) ≡ false
+        by true is (inl loud) = absurd (true≢false (sym is ∙ loud))
+        by true is (inr (seeks, one)) = ap (λ seeks. seeks && not (has options Files)) seeks
+        by false is visits = refl
 
     searches : run.scope.lists_files ≡ false
     searches = ap (λ (s : Scope). s.lists_files) run.is_scope.2 ∙ searching
@@ -197,15 +242,15 @@ module _ {S F R W X : Type 0} (output : AllocError → Option (List ℕ)) (conte
     kept : StepsKeep folders finds opens identifies Step
         (λ engine. has_failed engine.printer) run.scope IsFile IsReader At
     kept = record {
-      file = file-kept output facts first_at groups_at write_step file_remaining remaining read_step contents grows
+      file = file-kept message facts first_at groups_at write_step file_remaining remaining read_step contents grows
           settings
           (path_separator_of options) facts_of system run.first.hyperlinks run-for.matcher trusted run.first.printer before;
-      input = input-kept output facts first_at groups_at write_step file_remaining remaining read_step contents grows
+      input = input-kept message facts first_at groups_at write_step file_remaining remaining read_step contents grows
           settings (path_separator_of options) facts_of system run.first.hyperlinks run-for.matcher trusted run.first.printer before;
-      text = text-kept output facts first_at groups_at write_step file_remaining remaining read_step contents grows
+      text = text-kept message facts first_at groups_at write_step file_remaining remaining read_step contents grows
           settings
           (path_separator_of options) facts_of system run.first.hyperlinks run-for.matcher trusted run.first.printer before;
-      quits = quits-kept output facts first_at groups_at write_step file_remaining remaining read_step contents grows
+      quits = quits-kept message facts first_at groups_at write_step file_remaining remaining read_step contents grows
           settings (path_separator_of options) facts_of system run.first.hyperlinks run-for.matcher trusted run.first.printer before;
     }
 
@@ -213,7 +258,7 @@ module _ {S F R W X : Type 0} (output : AllocError → Option (List ℕ)) (conte
     Cut error engine = HasFailedWith write_step error engine.writer
 
     keep : CallsKeep Step (λ engine. has_failed engine.printer) Sound Cut
-    keep = calls-keep output facts first_at groups_at write_step file_remaining remaining read_step contents grows
+    keep = calls-keep message facts first_at groups_at write_step file_remaining remaining read_step contents grows
         settings
         (path_separator_of options) facts_of system run.first.hyperlinks run-for.matcher trusted run.first.printer before
 
@@ -222,32 +267,29 @@ module _ {S F R W X : Type 0} (output : AllocError → Option (List ℕ)) (conte
 
     finishing : (old new : PrintingEngine S F M R W X) (error : Error) → Sound old → Step old (finishes (Err error)) new
         → Sound new ⊎ Cut error new
-    finishing old new error sound failed = elim (finishes-after output facts first_at groups_at write_step file_remaining
+    finishing old new error sound failed = elim (finishes-after message facts first_at groups_at write_step file_remaining
         remaining read_step contents grows settings (path_separator_of options) facts_of system run.first.hyperlinks
         run-for.matcher trusted run.first.printer before old new error sound failed) [
-          | inl still ↦ inl (finishes-sound output facts first_at groups_at write_step file_remaining remaining read_step
+          | inl still ↦ inl (finishes-sound message facts first_at groups_at write_step file_remaining remaining read_step
               contents grows settings (path_separator_of options) facts_of system run.first.hyperlinks run-for.matcher
               trusted run.first.printer before old new (Err error) sound failed still)
           | inr cut ↦ inr cut
         ]
 
     abbrev Written : Type 0
-    Written = IsClosed write_step writer' ⊎ HasWritten contents before file_remaining remaining read_step folders finds
-        opens identifies facts first_at groups_at options regex input status input' writer'
+    Written = IsClosed write_step ended.output
+        ⊎ HasWritten world system before facts first_at groups_at options regex input ended
 
     -- all was visited and written: the texts of the searches
     whole : IsWhole folders finds opens identifies Step (λ engine. has_failed engine.printer) run.scope Sound Cut keep
-        is-unfailed finishing run.choices (paths_of options) run.first status run.last other → Written
+        is-unfailed finishing run.choices (paths_of options) run.first ended.status run.last other → Written
     whole is =
         let (inputs, reader, are, now) = ordered-visited folders finds opens identifies Step
-        (λ engine. has_failed engine.printer) run.scope IsFile IsReader At kept unquiet searches reads_input input is.left
-        (paths_of options) is.begun is.total is.mid is.visited (record {
-          no_error = (good-status run.scope is.total unquiet well).0;
-          no_failure = is.no_failure;
-        })
+        (λ engine. has_failed engine.printer) run.scope IsFile IsReader At kept sought searches reads_input input is.left
+        (paths_of options) is.begun is.total is.mid is.visited good.0
         (said-all folders finds opens identifies Step (λ engine. has_failed engine.printer) run.scope IsFile IsReader At
-        kept unquiet searches reads_input false [] false input run.first is.warned None is.begun is.said refl at-first) in
-        let done = finishes-kept output facts first_at groups_at write_step file_remaining remaining read_step contents
+        kept sought searches reads_input false [] false input run.first is.warned None is.begun is.said refl at-first) in
+        let done = finishes-kept message facts first_at groups_at write_step file_remaining remaining read_step contents
         grows settings (path_separator_of options) facts_of system run.first.hyperlinks run-for.matcher trusted
         run.first.printer before inputs is.total.has_match reader is.mid run.last now is.finished in
         inr (record {
@@ -279,127 +321,102 @@ module _ {S F R W X : Type 0} (output : AllocError → Option (List ℕ)) (conte
           texts = done.texts;
           totals = done.totals;
           are_totals = done.are_totals;
-          written = ap contents run.writer_after ∙ done.holds;
-          status_is = is.status_is ∙ ((good-status run.scope is.total unquiet well).1
-              ∙ ap (λ found. if found then 0 else 1) (sym done.found_is));
+          written = ap contents run.output_after ∙ done.holds;
+          status_is = is.status_is ∙ (good.1 ∙ ap (λ found. if found then 0 else 1) (sym done.found_is));
         })
       where
-        well : status_of run.scope is.total ≢ 2
-        well = subst (λ s. s ≢ 2) is.status_is other
+        good : IsGoodEnd run.scope is.total
+        good = good-end options run.scope is.total ended.status scoped is.no_failure is.status_is other visits
 
     run-written : Written
     run-written = elim (run-ended folders finds opens identifies Step (λ engine. has_failed engine.printer) run.scope
-        Sound Cut keep is-unfailed finishing run.choices (paths_of options) run.first status run.last other run.run
+        Sound Cut keep is-unfailed finishing run.choices (paths_of options) run.first ended.status run.last other run.run
         sound-first) [
           | inl (error, broken, cut) ↦ inl (
             error,
             broken,
-            subst (HasFailedWith write_step error) (sym run.writer_after)
+            subst (HasFailedWith write_step error) (sym run.output_after)
                 cut,
           )
           | inr is ↦ whole is
         ]
 
 -- a whole run
-module _ {S F R W X : Type 0} (output : AllocError → Option (List ℕ)) (contents : W → Option (List ℕ))
-    (write_step : W → OutputCall → W → Type 0) (say_step : X → OutputCall → X → Type 0)
-    (file_remaining : F → Option (List ℕ)) (remaining : R → Option (List ℕ)) (read_step : R → ReadResult → R → Type 0)
-    (facts_of : S → FolderFacts) (system : S) (finds : List ℕ → Result Bool Error → Type 0) (opens : List ℕ → Result F Error → Type 0)
-    (identifies : F → Option FileId → Type 0) (arguments : List (Vec ℕ Global)) (streams : Streams) (input : R)
-    (writer : W) (errors : X) (status : ℕ) (input' : R) (writer' : W) (errors' : X) where
-  abbrev own-folders : FolderFacts
-  own-folders = facts_of system
+module _ {S F R W X : Type 0} (message : AllocError → Option (List ℕ)) (world : World S F R W X) (system : S)
+    (arguments : List (Vec ℕ Global)) (streams : Streams) (input : R) (output : W) (errors : X) (ended : Ended R W)
+    (errors' : X) where
+  module _ (grows : (old new : W) (call : OutputCall) → world.output.step old call new
+      → Appends (world.output.contents old) (world.output.contents new) (taken_by call)) (before : List ℕ)
+      (held : world.output.contents output ≡ Some before) (other : ended.status ≢ 2) where
+    abbrev Done : Options → Type 0
+    Done options = IsClosed world.output.step ended.output ⊎ HasEnded world system before options input ended
 
-  module _ (grows : (old new : W) (call : OutputCall) → write_step old call new
-      → Appends (contents old) (contents new) (taken_by call)) (before : List ℕ) (held : contents writer ≡ Some before)
-      (other : status ≢ 2) where
-    abbrev Ended : Options → Type 0
-    Ended options = IsClosed write_step writer' ⊎ HasEnded contents before file_remaining remaining read_step
-        own-folders finds
-        opens identifies options input status input' writer'
+    -- what is known of a run that has visited all, unless nobody reads its output
+    visited : (options : Options) {Found : Type 0}
+        → (VisitsAll options ended.status → IsClosed world.output.step ended.output ⊎ Found)
+        → ((VisitsAll options ended.status → Found) → HasEnded world system before options input ended)
+        → Done options
+    visited options found done = elim (visits-or-not options ended.status) [
+      | inl visits ↦ elim (found visits) [
+        | inl unread ↦ inl unread
+        | inr is ↦ inr (done (λ visits. is))
+      ]
+      | inr otherwise ↦ inr (done (λ visits. absurd (otherwise visits)))
+    ]
 
-    by-answer : (options : Options) (text : List ℕ) → IsAnswer options text → input' ≡ input
-        → IsAnswered write_step text writer status writer' → Ended options
-    by-answer options text is same answer = elim (answered output contents write_step say_step file_remaining remaining
-        read_step facts_of system finds opens identifies grows before options text writer status writer' held other answer) [
+    by-answer : (options : Options) (text : List ℕ) → IsAnswer options text
+        → IsAnswered world.output.step text input output ended → Done options
+    by-answer options text is answer = elim (answered message world system grows before options text input output ended
+        held other answer) [
           | inl unread ↦ inl unread
-          | inr (zero, taken) ↦ inr (of_answer text is zero same taken)
+          | inr (zero, taken) ↦ inr (of_answer text is zero answer.unread taken)
         ]
 
     by-options : (options : Options) (said : X)
-        → IsOptionsRun output write_step say_step file_remaining remaining read_step facts_of system finds opens identifies
-        options
-        input writer said status input' writer' errors'
-        → Ended options
-    by-options options said (without_memory failure memory refused) =
-        absurd (other refused.refused.status_is)
-    by-options options said (of_text text asked same answer) = by-answer options text (inl asked) same answer
-    by-options options said (of_types text none types list same answer) =
-        by-answer options text (inr (none, types, list)) same answer
-    by-options options said (of_refusal mid failure none caused refusal) =
-        absurd (other refusal.refused.status_is)
-    by-options options said (OfListing none types together lists (inl refused)) =
-        absurd (other refused.refused.status_is)
-    by-options options said (OfListing none types together lists (inr listing)) = by (has options Quiet) refl
-      where
-        listed : (has options Quiet ≡ false → HasListed contents before file_remaining remaining read_step own-folders
-            finds opens identifies options status writer') → Ended options
-        listed found = inr (of_listing none types together lists listing.unread found)
-
-        by : (quiet : Bool) → has options Quiet ≡ quiet → Ended options
-        by true is = listed (λ loud. absurd (true≢false (sym is ∙ loud)))
-        by false loud = elim (listing-written contents write_step file_remaining remaining read_step facts_of system finds
-            opens identifies grows before options input writer said status input' writer' held other loud lists listing) [
-              | inl unread ↦ inl unread
-              | inr found ↦ listed (λ loud. found)
-            ]
+        → IsOptionsRun message world system options input output said ended errors' → Done options
+    by-options options said (without_memory (failure, memory, refused)) = absurd (other refused.status)
+    by-options options said (of_text text asked answer) = by-answer options text (inl asked) answer
+    by-options options said (of_types text none types list answer) =
+        by-answer options text (inr (none, types, list)) answer
+    by-options options said (of_refusal mid failure none caused refused) = absurd (other refused.status)
+    by-options options said (OfListing none types together lists (inl refused)) = absurd (other refused.refused.status)
+    by-options options said (OfListing none types together lists (inr listing)) =
+        visited options (λ visits. listing-written world system grows before options input output said ended held other
+        visits lists listing) (of_listing none types together lists listing.unread)
     by-options options said (OfSearch patterns mid none types together searching are (inl refused)) =
-        absurd (other refused.refused.status_is)
+        absurd (other refused.refused.status)
     by-options options said (OfSearch patterns mid none types together searching are (inr whole)) =
-        by (has options Quiet) refl
+        visited options written (of_search patterns mid whole.regex none types together searching are whole.has_options
+        whole.has_patterns)
       where
-        searched : (has options Quiet ≡ false
-            → HasWritten contents before file_remaining remaining read_step own-folders finds opens identifies {M = Literal}
-            literal_facts literal_first_at literal_groups_at options whole.regex mid status input' writer'
-            ⊎ HasWritten contents before file_remaining remaining read_step own-folders finds opens identifies
-            {M = Named (naming_of whole.regex)} named_facts named_first_at named_groups_at options whole.regex mid
-            status input' writer')
-            → Ended options
-        searched found = inr (of_search patterns mid whole.regex none types together searching are whole.has_options
-            whole.has_patterns found)
-
-        by : (quiet : Bool) → has options Quiet ≡ quiet → Ended options
-        by true is = searched (λ loud. absurd (true≢false (sym is ∙ loud)))
-        by false loud = elim whole.run [
-          | inl literal ↦ elim (run-written output contents write_step say_step file_remaining remaining read_step
-              facts_of system finds opens identifies grows before options _ _ _ whole.regex mid writer said status input'
-              writer' held other loud searching literal) [
+        written : VisitsAll options ended.status → IsClosed world.output.step ended.output
+            ⊎ HasWrittenOf world system before options whole.regex mid ended
+        written visits = elim whole.run [
+          | inl literal ↦ elim (run-written message world system grows before options _ _ _ whole.regex mid output said
+              ended held other visits searching literal) [
                 | inl unread ↦ inl unread
-                | inr found ↦ searched (λ loud. inl found)
+                | inr found ↦ inr (inl found)
               ]
-          | inr named ↦ elim (run-written output contents write_step say_step file_remaining remaining read_step
-              facts_of system finds opens identifies grows before options _ _ _ whole.regex mid writer said status input'
-              writer' held other loud searching named) [
+          | inr named ↦ elim (run-written message world system grows before options _ _ _ whole.regex mid output said
+              ended held other visits searching named) [
                 | inl unread ↦ inl unread
-                | inr found ↦ searched (λ loud. inr found)
+                | inr found ↦ inr (inr found)
               ]
         ]
 
-    by-words : IsProgramRun output write_step say_step file_remaining remaining read_step facts_of system finds opens identifies
-        arguments streams input writer errors status input' writer' errors'
-        → IsClosed write_step writer'
-        ⊎ ((options : Options) × AreOptionsFor say_step own-folders arguments streams errors options
-        × HasEnded contents before file_remaining remaining read_step own-folders finds opens identifies options input
-        status
-        input' writer')
-    by-words (of_fault words said refusal failure are reads refused) = absurd (other refused.refused.status_is)
-    by-words (no_memory failure memory refused) = absurd (other refused.refused.status_is)
-    by-words (of_parsed words said parsed are read (out_of_memory failure memory refused)) =
-        absurd (other refused.refused.status_is)
+    by-words : IsProgramRun message world system arguments streams input output errors ended errors'
+        → IsClosed world.output.step ended.output
+        ⊎ ((options : Options)
+        × AreOptionsFor world.errors.step (world.folders.facts system) arguments streams errors options
+        × HasEnded world system before options input ended)
+    by-words (of_fault words said refusal failure are reads refused) = absurd (other refused.status)
+    by-words (no_memory (failure, memory, refused)) = absurd (other refused.status)
+    by-words (of_parsed words said parsed are read (out_of_memory (failure, memory, refused))) =
+        absurd (other refused.status)
     by-words (of_parsed words said parsed are read (of_options options uses operands lists used named listed set run)) =
         elim (by-options options said run) [
           | inl unread ↦ inl unread
-          | inr ended ↦ inr (
+          | inr done ↦ inr (
             options,
             record {
               words = words;
@@ -415,15 +432,13 @@ module _ {S F R W X : Type 0} (output : AllocError → Option (List ℕ)) (conte
               are_lists = listed;
               are_options = set;
             },
-            ended,
+            done,
           )
         ]
 
   -- it does what its arguments ask for
-  pub as-asked : ((old new : W) (call : OutputCall) → write_step old call new
-      → Appends (contents old) (contents new) (taken_by call))
-      → IsProgramRun output write_step say_step file_remaining remaining read_step facts_of system finds opens identifies
-      arguments streams input writer errors status input' writer' errors'
-      → DoesAsAsked contents file_remaining remaining read_step own-folders finds opens identifies write_step say_step
-      arguments streams input writer errors status input' writer'
+  pub as-asked : ((old new : W) (call : OutputCall) → world.output.step old call new
+      → Appends (world.output.contents old) (world.output.contents new) (taken_by call))
+      → IsProgramRun message world system arguments streams input output errors ended errors'
+      → DoesAsAsked world system arguments streams input output errors ended
   as-asked grows ran before held other = by-words grows before held other ran

@@ -1,14 +1,15 @@
 -- Options that aren't used: none of them applies, and none has a value.
 use Rattle.std.proofs.Common.{◌≡◌, ◌⊎◌, ◌∙◌, ℕ, ◌-◌, ◌<◌, Bool, true, false, List, [], ◌∷◌, Option}
 use Rattle.std.proofs.Common.{None, Some, ap, arith, inl, inr, length, refl, subst, sym}
-use Rattle.std.proofs.lemmas.Bool.{eqb-true}
+use Rattle.std.proofs.Common.{true≢false}
+use Rattle.std.proofs.lemmas.Bool.{and_parts, eqb-true}
 use Rattle.std.proofs.lemmas.List.{get_or-reverse, length-reverse}
 use Rattle.std.proofs.lemmas.List.Elements.{All-head, All-tail, All-weaker}
 use Rattle.std.specs.Borrow.{Bor}
-use Rattle.std.specs.List.{find, list_any}
+use Rattle.std.specs.List.{find, list_all, list_any}
 use Rattle.std.specs.Option.{option_and_then}
-use Rattle.std.specs.Prelude.{◌&&◌, ◌==◌, All, cond, not, reverse}
-use Rattle.linegrep_cli.specs.Corollaries.{UseOnly, changes_more, changing_options}
+use Rattle.std.specs.Prelude.{◌&&◌, ◌||◌, ◌==◌, All, cond, not, reverse}
+use Rattle.linegrep_cli.specs.Corollaries.{UseOnly, changes_more, changing_options, is_among}
 use Rattle.linegrep_cli.specs.OptionUses.{has}
 use Rattle.linegrep_cli.specs.OptionValues.{number_for}
 use Rattle.linegrep_cli.specs.declared.options.Options.{Options}
@@ -80,24 +81,30 @@ number-none uses option others =
 
 -- ---- options that are not among those that are used
 
-other-option : (allowed : List OptionId) (option used : OptionId) → changes_more allowed option ≡ true
-    → changes_more allowed used ≡ false → is_same used option ≡ false
-other-option allowed option used changes unchanging = go (is_same used option) refl
+-- an option changes something, and isn't allowed
+abbrev pub IsRefused : List OptionId → OptionId → Type 0
+IsRefused allowed option = changes_more allowed option ≡ true
+
+-- options that are one are both refused, or neither is
+same-change : (allowed : List OptionId) (one other : OptionId) → is_same one other ≡ true
+    → changes_more allowed one ≡ changes_more allowed other
+same-change allowed one other same =
+    ap more (eqb-true (tag_of the_type one) (tag_of the_type other) same)
   where
     more : ℕ → Bool
     more tag = list_any (λ one. tag == tag_of the_type one) changing_options
         && not (list_any (λ one. tag == tag_of the_type one) allowed)
 
+other-option : (allowed : List OptionId) (option used : OptionId) → IsRefused allowed option
+    → changes_more allowed used ≡ false → is_same used option ≡ false
+other-option allowed option used changes unchanging = go (is_same used option) refl
+  where
     go : (b : Bool) → is_same used option ≡ b → b ≡ false
-    go true same =
-        let one : tag_of the_type used ≡ tag_of the_type option =
-        eqb-true (tag_of the_type used) (tag_of the_type option) same in
-        let both : more (tag_of the_type used) ≡ more (tag_of the_type option) = ap more one in
-        sym changes ∙ (sym both ∙ unchanging)
+    go true same = sym changes ∙ (sym (same-change allowed used option same) ∙ unchanging)
     go false same = refl
 
 pub others : (allowed : List OptionId) (options : Options) (only : UseOnly allowed options)
-    (option : OptionId) → changes_more allowed option ≡ true → AreOthers option only.uses.now
+    (option : OptionId) → IsRefused allowed option → AreOthers option only.uses.now
 others allowed options only option changes =
     All-weaker (λ (one : Use). changes_more allowed one.id ≡ false)
     (λ one. is_same one.id option ≡ false)
@@ -105,7 +112,36 @@ others allowed options only option changes =
     only.no_other
 
 pub has-none : (allowed : List OptionId) (options : Options) → UseOnly allowed options
-    → (option : OptionId) → changes_more allowed option ≡ true → has options option ≡ false
+    → (option : OptionId) → IsRefused allowed option → has options option ≡ false
 has-none allowed options only option changes =
     ap (λ (uses : Bor (List Use)). applies uses.now option) only.are_options.uses_are
     ∙ applies-none only.uses.now option (others allowed options only option changes)
+
+-- none of some options that change something is allowed
+abbrev pub AreRefused : List OptionId → List OptionId → Type 0
+AreRefused allowed some = list_all (changes_more allowed) some ≡ true
+
+refused : (allowed some : List OptionId) → AreRefused allowed some → (option : OptionId)
+    → is_among some option ≡ true → IsRefused allowed option
+refused allowed [] all option among = absurd (true≢false (sym among))
+refused allowed (one ∷ later) all option among =
+    let (first, others) = and_parts _ _ all in
+    go (is_same option one) refl among first (refused allowed later others option)
+  where
+    go : (b : Bool) → is_same option one ≡ b → (b || is_among later option) ≡ true
+        → IsRefused allowed one → (is_among later option ≡ true → IsRefused allowed option)
+        → IsRefused allowed option
+    go true same among first later = same-change allowed option one same ∙ first
+    go false same among first later = later among
+
+-- what is known of an option that is one of them
+module _ (allowed : List OptionId) (options : Options) (only : UseOnly allowed options)
+    (some : List OptionId) (are : AreRefused allowed some) (option : OptionId)
+    (among : is_among some option ≡ true) where
+  -- it doesn't apply
+  pub not-used : has options option ≡ false
+  not-used = has-none allowed options only option (refused allowed some are option among)
+
+  -- it isn't used, so that it has no value
+  pub other-uses : AreOthers option only.uses.now
+  other-uses = others allowed options only option (refused allowed some are option among)

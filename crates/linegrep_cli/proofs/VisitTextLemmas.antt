@@ -43,10 +43,11 @@ use Rattle.linegrep_files.specs.declared.choices.Choices.{Choices}
 use Rattle.linegrep_files.specs.declared.entry.Entry.{Entry}
 use Rattle.linegrep_files.specs.declared.file_id.FileId.{FileId}
 
--- nothing went wrong in what was visited
-pub record IsGood (visit : Visit) : Type 0 where
+-- nothing went wrong in what was visited, and no match ended the run
+pub record IsGood (scope : Scope) (visit : Visit) : Type 0 where
   pub no_error : visit.has_error ≡ false
   pub no_failure : visit.failure ≡ None
+  pub goes_on : (ends_with_match scope.quiet && visit.has_match) ≡ false
 
 pub or-none : (found : Bool) → (found || false) ≡ found
 or-none true = refl
@@ -92,30 +93,36 @@ either true one other holds = one refl holds
 either false one other holds = other refl holds
 
 -- if nothing went wrong in what was visited, and in what was visited next, nothing did in each
-pub both-good : (scope : Scope) (total next : Visit) → is_over scope total ≡ false → IsGood (visited_then total next)
-    → IsGood total × IsGood next
+pub both-good : (scope : Scope) (total next : Visit) → is_over scope total ≡ false
+    → IsGood scope (visited_then total next) → IsGood scope total × IsGood scope next
 both-good scope total next on good = (
   record {
     no_error = first-false total.has_error next.has_error good.no_error;
     no_failure = none-of total.failure (first-false (is_some total.failure)
         (ends_with_match scope.quiet && total.has_match) on);
+    goes_on = second-false (is_some total.failure) (ends_with_match scope.quiet && total.has_match) on;
   },
   record {
     no_error = second-false total.has_error next.has_error good.no_error;
     no_failure = good.no_failure;
+    goes_on = later (ends_with_match scope.quiet) total.has_match next.has_match good.goes_on;
   },
 )
+  where
+    later : (ends first next : Bool) → (ends && (first || next)) ≡ false → (ends && next) ≡ false
+    later true first next none = second-false first next none
+    later false first next none = refl
 
--- a run that writes what it finds isn't over then
-pub goes-on : (scope : Scope) → scope.quiet ≡ None → (visit : Visit) → IsGood visit → is_over scope visit ≡ false
-goes-on scope unquiet visit good =
+-- a run isn't over after what was visited well
+pub goes-on : (scope : Scope) (visit : Visit) → IsGood scope visit → is_over scope visit ≡ false
+goes-on scope visit good =
     ap (λ failure. is_some failure || (ends_with_match scope.quiet && visit.has_match)) good.no_failure
-    ∙ ap (λ quiet. ends_with_match quiet && visit.has_match) unquiet
+    ∙ good.goes_on
 
 -- a search that ended well left all as it was
 pub search-ended : {E F : Type 0} (step : E → EngineCall F → E → Type 0) (has_failed : E → Bool) (scope : Scope)
     (mid new : E) (result : Result (Unit {0}) (SearchError Global)) (visit : Visit)
-    → IsEnded step has_failed scope mid result visit new → IsGood visit → (result ≡ Ok tt) × (new ≡ mid)
+    → IsEnded step has_failed scope mid result visit new → IsGood scope visit → (result ≡ Ok tt) × (new ≡ mid)
 search-ended step has_failed scope mid new (Ok u) visit (unfailed, none, same) good = (refl, same)
 search-ended step has_failed scope mid new (Err e) visit failed good = absurd (either (has_failed mid)
     (λ is (unread, same, (error, is_error, written)). some-none visit.failure error is_error good.no_failure)
@@ -123,7 +130,7 @@ search-ended step has_failed scope mid new (Err e) visit failed good = absurd (e
 
 -- something went wrong if something can't be read
 pub reported-bad : {E F : Type 0} (step : E → EngineCall F → E → Type 0) (scope : Scope) (old new : E)
-    (visit : Visit) → IsReported step scope old visit new → IsGood visit → ⊥
+    (visit : Visit) → IsReported step scope old visit new → IsGood scope visit → ⊥
 reported-bad step scope old new visit (failure, said, is) good =
     true≢false (sym (ap (λ (v : Visit). v.has_error) is) ∙ good.no_error)
 
@@ -151,15 +158,15 @@ module _ {E F R : Type 0} (folders : FolderFacts) (finds : List ℕ → Result B
     pub quits : (quits next : Bool) (inputs : List Input) (found : Bool) (reader : R) (old new : E)
         → At quits inputs found reader old → step old (sets_quits next) new → At next inputs found reader new
 
-  module _ (kept : StepsKeep) (unquiet : scope.quiet ≡ None) (searches : scope.lists_files ≡ false)
-      (reads : scope.lists_input ≡ false) where
+  module _ (kept : StepsKeep) (sought : seeks_unmatched scope.quiet ≡ false)
+      (searches : scope.lists_files ≡ false) (reads : scope.lists_input ≡ false) where
     abbrev ended : (mid new : E) (result : Result (Unit {0}) (SearchError Global)) (visit : Visit)
-        → IsEnded step has_failed scope mid result visit new → IsGood visit → (result ≡ Ok tt) × (new ≡ mid)
+        → IsEnded step has_failed scope mid result visit new → IsGood scope visit → (result ≡ Ok tt) × (new ≡ mid)
     ended = search-ended step has_failed scope
 
     found-is : (searched : Searched) → has_found scope searched ≡ searched.has_match
-    found-is searched = ap (λ quiet. if seeks_unmatched quiet then is_ok searched.result && not searched.has_match
-        else searched.has_match) unquiet
+    found-is searched = ap (λ seeks. if seeks then is_ok searched.result && not searched.has_match
+        else searched.has_match) sought
 
     abbrev WithInput : (Input → Type 0) → Bool → List Input → Bool → R → E → Type 0
     WithInput IsOne quits inputs found reader new =
@@ -167,7 +174,7 @@ module _ {E F R : Type 0} (folders : FolderFacts) (finds : List ℕ → Result B
 
     file-visited : (quits : Bool) (inputs : List Input) (found : Bool) (reader : R) (path : Bor (List ℕ)) (file : F)
         (old : E) (visit : Visit) (new : E) → IsFileVisited step has_failed scope path file old visit new
-        → IsGood visit → At quits inputs found reader old
+        → IsGood scope visit → At quits inputs found reader old
         → WithInput (IsFile (path_of scope path) file quits) quits inputs (found || visit.has_match) reader new
     file-visited quits inputs found reader path file old visit new (searched, mid, searching, after) good at =
         let (ok, same) = ended mid new searched.result visit after.ended good in
@@ -180,7 +187,7 @@ module _ {E F R : Type 0} (folders : FolderFacts) (finds : List ℕ → Result B
               (sym (after.matched ∙ found-is searched)) now),
         )
 
-    abbrev reported : (old new : E) (visit : Visit) → IsReported step scope old visit new → IsGood visit → ⊥
+    abbrev reported : (old new : E) (visit : Visit) → IsReported step scope old visit new → IsGood scope visit → ⊥
     reported = reported-bad step scope
 
     listed : {T : Type 0} → scope.lists_files ≡ true → T
@@ -188,7 +195,7 @@ module _ {E F R : Type 0} (folders : FolderFacts) (finds : List ℕ → Result B
 
     path-visited : (quits : Bool) (inputs : List Input) (found : Bool) (reader : R) (path : Bor (List ℕ))
         (old : E) (visit : Visit) (new : E) → IsPathVisited opens identifies step has_failed scope path old visit new
-        → IsGood visit → At quits inputs found reader old
+        → IsGood scope visit → At quits inputs found reader old
         → WithInput (IsAtPath folders finds opens identifies scope IsFile IsReader path quits) quits inputs
         (found || visit.has_match) reader new
     path-visited quits inputs found reader path old visit new (of_unopened error opened is) good at =
@@ -200,7 +207,7 @@ module _ {E F R : Type 0} (folders : FolderFacts) (finds : List ℕ → Result B
         (input, record { file = file; opened = opened; kept = left; is_file = is_file }, now)
 
     input-visited : (inputs : List Input) (found : Bool) (reader : R) (old : E) (visit : Visit) (new : E)
-        → IsInputVisited step has_failed scope old visit new → IsGood visit → At false inputs found reader old
+        → IsInputVisited step has_failed scope old visit new → IsGood scope visit → At false inputs found reader old
         → (input : Input) × (reader' : R)
         × IsStandardInput folders finds opens identifies scope IsFile IsReader reader input reader'
         × At false (inputs ++ input ∷ []) (found || visit.has_match) reader' new
@@ -247,7 +254,7 @@ module _ {E F R : Type 0} (folders : FolderFacts) (finds : List ℕ → Result B
 
     entry-visited : (entries : List Entry) (inputs : List Input) (found before searched : Bool) (reader : R) (mid : E)
         (entry : Entry) (visit : Visit) (new : E)
-        → IsEntryVisited opens identifies step has_failed scope mid entry visit new → IsGood visit
+        → IsEntryVisited opens identifies step has_failed scope mid entry visit new → IsGood scope visit
         → WithFiles entries inputs (found || before) searched reader mid
         → WithFiles (entries ++ entry ∷ []) inputs (found || (before || visit.has_match))
         (searched || visit.has_searched) reader new
@@ -284,7 +291,7 @@ module _ {E F R : Type 0} (folders : FolderFacts) (finds : List ℕ → Result B
 
     entries-visited : (inputs : List Input) (found : Bool) (reader : R) (old : E) (entries : List Entry)
         (total : Visit) (new : E)
-        → AreEntriesVisited opens identifies step has_failed scope old entries total new → IsGood total
+        → AreEntriesVisited opens identifies step has_failed scope old entries total new → IsGood scope total
         → At quitting inputs found reader old → WithFiles entries inputs (found || total.has_match)
         total.has_searched reader new
     entries-visited inputs found reader old _ _ _ no_entry good at = (
@@ -305,13 +312,13 @@ module _ {E F R : Type 0} (folders : FolderFacts) (finds : List ℕ → Result B
     folder-visited : (inputs : List Input) (found : Bool) (reader : R) (choices : Choices) (folder : List ℕ)
         (old : E) (visit : Visit) (new : E)
         → IsFolderVisited folders opens identifies step has_failed scope choices folder old visit new
-        → IsGood visit → At false inputs found reader old
+        → IsGood scope visit → At false inputs found reader old
         → (next : List Input) × AreOfFolder folders finds opens identifies scope IsFile IsReader choices folder next
         × (visit.has_searched ≡ true → 0 < length next)
         × At false (inputs ++ next) (found || visit.has_match) reader new
     folder-visited inputs found reader choices folder old visit new is good at = elim is.tree.visit_is [
       | inl same ↦
-          let good_total = subst IsGood same good in
+          let good_total = subst (IsGood scope) same good in
           let (next, files, some, now) = entries-visited inputs found reader is.first is.tree.visited is.tree.total
           is.last
           is.tree.entries good_total
@@ -330,10 +337,10 @@ module _ {E F R : Type 0} (folders : FolderFacts) (finds : List ℕ → Result B
         all : IsWalkedTo folders scope choices folder is.tree.visited visit
             → AreAllOf folders scope.route choices folder is.tree.visited
         all (inl whole) = whole
-        all (inr (over, first)) = absurd (true≢false (sym over ∙ goes-on scope unquiet visit good))
+        all (inr (over, first)) = absurd (true≢false (sym over ∙ goes-on scope visit good))
 
     here-visited : (inputs : List Input) (found : Bool) (reader : R) (choices : Choices) (old : E) (visit : Visit)
-        (new : E) → IsHereVisited folders opens identifies step has_failed scope choices old visit new → IsGood visit
+        (new : E) → IsHereVisited folders opens identifies step has_failed scope choices old visit new → IsGood scope visit
         → At false inputs found reader old
         → (next : List Input) × AreOfFolder folders finds opens identifies scope IsFile IsReader choices [] next
         × (0 < length next) × At false (inputs ++ next) (found || visit.has_match) reader new
@@ -343,7 +350,7 @@ module _ {E F R : Type 0} (folders : FolderFacts) (finds : List ℕ → Result B
         ∙ good.no_error)))
         (λ none (same, moved).
         let (next, of, some, now) = folder-visited inputs found reader choices [] old is.folder is.mid is.visited
-        (subst IsGood same good) at in (
+        (subst (IsGood scope) same good) at in (
           next,
           of,
           some (has-searched is.folder.failure is.folder.has_searched scope.lists_files none
@@ -361,7 +368,7 @@ module _ {E F R : Type 0} (folders : FolderFacts) (finds : List ℕ → Result B
 
     waiting-visited : (first : R) (done : List Waiting) (found searched : Bool) (mid : E) (waiting : Waiting)
         (visit : Visit) (new : E) → IsWaitingVisited opens identifies step has_failed scope waiting mid visit new
-        → IsGood visit → WithWaiting first done found searched mid
+        → IsGood scope visit → WithWaiting first done found searched mid
         → WithWaiting first (done ++ waiting ∷ []) (found || visit.has_match) (searched || visit.has_searched) new
     waiting-visited first done found searched mid waiting visit new (of_standard_input target visited) good
         (inputs, reader, are, some, at) =
@@ -388,7 +395,7 @@ module _ {E F R : Type 0} (folders : FolderFacts) (finds : List ℕ → Result B
         listed lists
 
     pub all-waiting-visited : (first : R) (old : E) (done : List Waiting) (total : Visit) (new : E)
-        → AreWaitingVisited opens identifies step has_failed scope old done total new → IsGood total
+        → AreWaitingVisited opens identifies step has_failed scope old done total new → IsGood scope total
         → At false [] false first old → WithWaiting first done total.has_match total.has_searched new
     all-waiting-visited first old _ _ _ none_waiting good at =
         ([], first, none_waits, λ has. absurd (true≢false (sym has)), at)
@@ -407,7 +414,7 @@ module _ {E F R : Type 0} (folders : FolderFacts) (finds : List ℕ → Result B
     named-visited : (inputs : List Input) (found : Bool) (reader : R) (choices : Choices) (path : Bor (List ℕ))
         (old : E) (visit : Visit) (new : E) → is_input path.now ≡ false → is_escaped path.now ≡ false
         → IsNamedVisited folders finds opens identifies step has_failed scope choices path old visit new
-        → IsGood visit → At false inputs found reader old
+        → IsGood scope visit → At false inputs found reader old
         → WithOperand choices path inputs (found || visit.has_match) reader new
     named-visited inputs found reader choices path old visit new named text (OfFolder is_folder visited) good at =
         let (next, of, some, now) = folder-visited inputs found reader choices path.now old visit new visited good at in
@@ -429,7 +436,7 @@ module _ {E F R : Type 0} (folders : FolderFacts) (finds : List ℕ → Result B
     operand-visited : (inputs : List Input) (found : Bool) (reader : R) (choices : Choices) (path : Bor (List ℕ))
         (old : E) (visit : Visit) (new : E)
         → IsOperandVisited folders finds opens identifies step has_failed scope choices path old visit new
-        → IsGood visit → At false inputs found reader old
+        → IsGood scope visit → At false inputs found reader old
         → WithOperand choices path inputs (found || visit.has_match) reader new
     operand-visited inputs found reader choices path old visit new visited good at =
         either (is_input path.now)
@@ -442,7 +449,7 @@ module _ {E F R : Type 0} (folders : FolderFacts) (finds : List ℕ → Result B
 
     operands-visited : (reader : R) (choices : Choices) (old : E) (paths : List (Bor (List ℕ))) (total : Visit)
         (new : E)
-        → AreVisited folders finds opens identifies step has_failed scope choices old paths total new → IsGood total
+        → AreVisited folders finds opens identifies step has_failed scope choices old paths total new → IsGood scope total
         → At false [] false reader old
         → (inputs : List Input) × (reader' : R)
         × AreOfOperands folders finds opens identifies scope IsFile IsReader choices reader paths inputs reader'
@@ -458,7 +465,7 @@ module _ {E F R : Type 0} (folders : FolderFacts) (finds : List ℕ → Result B
 
     -- all that is visited: what a run searches, if nothing failed
     pub all-visited : (reader : R) (choices : Choices) (paths : List (Bor (List ℕ))) (old : E) (total : Visit) (new : E)
-        → AreAllVisited folders finds opens identifies step has_failed scope choices paths old total new → IsGood total
+        → AreAllVisited folders finds opens identifies step has_failed scope choices paths old total new → IsGood scope total
         → At false [] false reader old
         → (inputs : List Input) × (reader' : R)
         × AreSearchedInTurn folders finds opens identifies scope IsFile IsReader choices paths reader inputs reader'
@@ -483,4 +490,4 @@ module _ {E F R : Type 0} (folders : FolderFacts) (finds : List ℕ → Result B
       where
         none : ((rest ≡ []) ⊎ (is_over scope total ≡ true)) → rest ≡ []
         none (inl empty) = empty
-        none (inr over) = absurd (true≢false (sym over ∙ goes-on scope unquiet total good))
+        none (inr over) = absurd (true≢false (sym over ∙ goes-on scope total good))

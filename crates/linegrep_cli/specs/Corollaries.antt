@@ -2,11 +2,10 @@
 -- of it are written, their number, or its path, and the status.
 use Rattle.std.specs.Prelude.{◌≡◌, ◌≢◌, ℕ, ◌+◌, Bool, true, false, not, ◌&&◌, nat_lt}
 use Rattle.std.specs.Prelude.{if◌then◌else◌, All, List, [], ◌∷◌, ◌++◌, decimal, length}
-use Rattle.std.specs.Prelude.{filter, take, Option, None, Some, is_some, Result}
+use Rattle.std.specs.Prelude.{filter, take, Option, None, Some, is_some}
 use Rattle.std.specs.Borrow.{Bor}
 use Rattle.std.specs.List.{enumerate_from, flat_map, list_any}
 use Rattle.std.specs.declared.alloc.AllocError.{AllocError}
-use Rattle.std.specs.declared.io.Error.{Error}
 use Rattle.grep_printer.specs.LineTexts.{missing_end}
 use Rattle.grep_printer.specs.StatsSums.{capped}
 use Rattle.grep_printer.specs.declared.hyperlinks.PrinterPath.{PrinterPath}
@@ -15,7 +14,6 @@ use Rattle.grep_regex.specs.declared.regex.Regex.{Regex}
 use Rattle.grep_searcher.specs.Lines.{lines, strip}
 use Rattle.grep_searcher.specs.Meanings.{MatcherFacts}
 use Rattle.grep_searcher.specs.Searches.{searched_bytes}
-use Rattle.grep_searcher.specs.Source.{ReadResult}
 use Rattle.grep_searcher.specs.declared.LineTerminator.TheVariants.{Byte}
 use Rattle.linegrep_cli.specs.OptionUses.{has}
 use Rattle.linegrep_cli.specs.OptionValues.{AreOptions}
@@ -25,11 +23,11 @@ use Rattle.linegrep_cli.specs.WholeRuns.{literal_facts, literal_first_at, litera
 use Rattle.linegrep_cli.specs.WholeRuns.{named_facts, named_first_at}
 use Rattle.linegrep_cli.specs.WholeRuns.{named_groups_at, naming_of}
 use Rattle.linegrep_cli.specs.WrittenRuns.{HasWritten}
+use Rattle.linegrep_cli.specs.Worlds.{World}
 use Rattle.linegrep_cli.specs.declared.lists.Lists.{Lists}
 use Rattle.linegrep_cli.specs.declared.options.Options.{Options}
 use Rattle.linegrep_cli.specs.declared.program.Streams.{Streams}
-use Rattle.linegrep_files.specs.FolderFacts.{FolderFacts}
-use Rattle.linegrep_files.specs.declared.file_id.FileId.{FileId}
+use Rattle.linegrep_cli.specs.declared.search.Ended.{Ended}
 use Rattle.linegrep_options.specs.OptionUses.{is_same}
 use Rattle.linegrep_options.specs.declared.option_id.OptionId.{OptionId}
 use Rattle.linegrep_options.specs.declared.option_id.OptionId.TheVariants.{AfterContext}
@@ -95,26 +93,26 @@ abbrev pub is_matched_by : Regex → List ℕ → Bool
 is_matched_by regex line = is_some ((regex_meaning regex).first (strip (Byte 10) line))
 
 -- the lines of a text that match, those that don't, and whether one does
-abbrev pub matching : Regex → List ℕ → List (List ℕ)
-matching regex text = filter (is_matched_by regex) (lines 10 text)
+abbrev pub matching_lines : Regex → List ℕ → List (List ℕ)
+matching_lines regex text = filter (is_matched_by regex) (lines 10 text)
 
-abbrev pub others : Regex → List ℕ → List (List ℕ)
-others regex text = filter (λ line. not (is_matched_by regex line)) (lines 10 text)
+abbrev pub other_lines : Regex → List ℕ → List (List ℕ)
+other_lines regex text = filter (λ line. not (is_matched_by regex line)) (lines 10 text)
 
 abbrev pub has_matching : Regex → List ℕ → Bool
 has_matching regex text = list_any (is_matched_by regex) (lines 10 text)
 
 -- a line as it is written: with a line feed at its end, which the last line of a text may lack
-abbrev pub ended : List ℕ → List ℕ
-ended line = line ++ missing_end 10 line
+abbrev pub line_with_end : List ℕ → List ℕ
+line_with_end line = line ++ missing_end 10 line
 
 -- a line after its number, which is one more than that of the lines before it
-abbrev pub numbered : ℕ × List ℕ → List ℕ
-numbered one = decimal (one.0 + 1) ++ 58 ∷ ended one.1
+abbrev pub line_with_number : ℕ × List ℕ → List ℕ
+line_with_number one = decimal (one.0 + 1) ++ 58 ∷ line_with_end one.1
 
 -- a number in a line of its own, unless it is 0
-abbrev pub counted_line : ℕ → List ℕ
-counted_line count = if nat_lt 0 count then decimal count ++ 10 ∷ [] else []
+abbrev pub line_of_count : ℕ → List ℕ
+line_of_count count = if nat_lt 0 count then decimal count ++ 10 ∷ [] else []
 
 -- What is said of a run: by its options, the expression that it searches for, the path that is
 -- written of its input, the text that it searches, whether it has written a text, and its status
@@ -124,60 +122,69 @@ Claim = Options → Regex → Option PrinterPath → List ℕ → (List ℕ → 
 -- `linegrep P FILE`: the lines that match are written
 abbrev pub WritesMatching : Claim
 WritesMatching options regex path text IsWritten status =
-    path ≡ None → IsWritten (flat_map ended (matching regex text))
+    path ≡ None → IsWritten (flat_map line_with_end (matching_lines regex text))
 
 -- `linegrep -v P FILE`: the other lines are
 abbrev pub WritesOthers : Claim
 WritesOthers options regex path text IsWritten status =
-    path ≡ None → has options InvertMatch ≡ true → IsWritten (flat_map ended (others regex text))
+    path ≡ None → has options InvertMatch ≡ true
+    → IsWritten (flat_map line_with_end (other_lines regex text))
 
 -- `linegrep -n P FILE`: the lines that match are, each after its number
 abbrev pub WritesNumbered : Claim
 WritesNumbered options regex path text IsWritten status =
     path ≡ None → has options LineNumber ≡ true
-    → IsWritten (flat_map numbered
+    → IsWritten (flat_map line_with_number
     (filter (λ one. is_matched_by regex one.1) (enumerate_from 0 (lines 10 text))))
 
 -- `linegrep -m N P FILE`: the first N lines that match are
 abbrev pub WritesFirst : Claim
 WritesFirst options regex path text IsWritten status =
     path ≡ None → (most : ℕ) → options.max_count ≡ Some most
-    → IsWritten (flat_map ended (take most (matching regex text)))
+    → IsWritten (flat_map line_with_end (take most (matching_lines regex text)))
 
 -- `linegrep -c P FILE`: how many lines match is written, or nothing if none does. The count goes up
 -- to the greatest number of 64 bits. The status says whether a line matches
 abbrev pub WritesCount : Claim
 WritesCount options regex path text IsWritten status =
     path ≡ None → has options Count ≡ true
-    → IsWritten (counted_line (capped (length (matching regex text))))
+    → IsWritten (line_of_count (capped (length (matching_lines regex text))))
     × (status ≡ (if has_matching regex text then 0 else 1))
+
+-- `linegrep -l P FILE`: the path is written, as it is shown, if a line matches. The status says
+-- whether one does
+abbrev pub WritesPath : Claim
+WritesPath options regex path text IsWritten status =
+    has options FilesWithMatches ≡ true → (shown : PrinterPath) → path ≡ Some shown
+    → shown.link ≡ None
+    → IsWritten (if has_matching regex text then shown.text.now ++ 10 ∷ [] else [])
+    × (status ≡ (if has_matching regex text then 0 else 1))
+
+-- `linegrep -q P FILE`, if it has searched the whole file: nothing is written. The status says
+-- whether a line matches
+abbrev pub WritesNothing : Claim
+WritesNothing options regex path text IsWritten status =
+    has options Quiet ≡ true
+    → IsWritten [] × (status ≡ (if has_matching regex text then 0 else 1))
 
 -- without `-v`, `-m` and `-c`, the status says whether a line matches
 abbrev pub TellsMatching : Claim
 TellsMatching options regex path text IsWritten status =
     path ≡ None → status ≡ (if has_matching regex text then 0 else 1)
 
--- By what an output holds, and by what a system and its readers may say.
-module _ {S F R W : Type 0} (contents : W → Option (List ℕ))
-    (file_remaining : F → Option (List ℕ)) (remaining : R → Option (List ℕ))
-    (read_step : R → ReadResult → R → Type 0) (facts_of : S → FolderFacts)
-    (finds : S → List ℕ → Result Bool Error → Type 0)
-    (opens : S → List ℕ → Result F Error → Type 0)
-    (identifies : S → F → Option FileId → Type 0) where
+-- By what surrounds a run.
+module _ {S F R W X : Type 0} (world : World S F R W X) where
   -- Something holds of each run with such a matcher that has searched one input, and whose options
   -- use no option but some that changes what is written of it.
   abbrev pub EachRunWith : {M : Type 0} → (M → MatcherFacts AllocError)
       → (M → List ℕ → ℕ → Option (ℕ × ℕ)) → (M → List ℕ → ℕ → List (Option (ℕ × ℕ))) → Regex
       → List OptionId → Claim → Type 0
   EachRunWith facts first_at groups_at regex allowed Says = (system : S) (before : List ℕ)
-      (options : Options) (input : R) (status : ℕ) (input' : R) (writer' : W) (one : Input)
-      (text : List ℕ)
-      (run : HasWritten contents before file_remaining remaining read_step (facts_of system)
-      (finds system) (opens system) (identifies system) facts first_at groups_at options regex
-      input status input' writer')
+      (options : Options) (input : R) (ended : Ended R W) (one : Input) (text : List ℕ)
+      (run : HasWritten world system before facts first_at groups_at options regex input ended)
       → UseOnly allowed options → run.inputs ≡ one ∷ [] → IsTextOfInput options one text
-      → Says options regex one.path text (λ written. contents writer' ≡ Some (before ++ written))
-      status
+      → Says options regex one.path text
+      (λ written. world.output.contents ended.output ≡ Some (before ++ written)) ended.status
 
   -- it does with either of the matchers that a run may have
   abbrev pub EachRun : List OptionId → Claim → Type 0
@@ -204,3 +211,9 @@ module _ {S F R W : Type 0} (contents : W → Option (List ℕ))
 
   abbrev pub MatchingLinesAreCounted : Type 0
   MatchingLinesAreCounted = EachRun (Count ∷ []) WritesCount
+
+  abbrev pub PathsAreWritten : Type 0
+  PathsAreWritten = EachRun (FilesWithMatches ∷ []) WritesPath
+
+  abbrev pub QuietRunsWriteNothing : Type 0
+  QuietRunsWriteNothing = EachRun (Quiet ∷ []) WritesNothing

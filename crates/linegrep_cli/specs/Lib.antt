@@ -38,5 +38,6 @@ pub mod TemplateOptions
 pub mod TerminalColors
 pub mod WaitingFiles
 pub mod WholeRuns
+pub mod Worlds
 pub mod WriterFlushes
 pub mod WrittenRuns

@@ -1,5 +1,5 @@
 -- What a run does that lists files.
-use Rattle.std.specs.Prelude.{◌≡◌, ◌⊎◌, ℕ, Bool, true, if◌then◌else◌, List, [], MatchBool}
+use Rattle.std.specs.Prelude.{◌≡◌, ◌⊎◌, ℕ, true, if◌then◌else◌, List, MatchBool}
 use Rattle.std.specs.Prelude.{MatchResult, Option, Some, Result, Ok, is_ok, is_some}
 use Rattle.std.specs.Borrow.{Bor}
 use Rattle.std.specs.declared.io.Error.{Error}
@@ -22,16 +22,17 @@ use Rattle.linegrep_cli.specs.OptionMeanings.{paths_of}
 use Rattle.linegrep_cli.specs.OptionUses.{has}
 use Rattle.linegrep_cli.specs.PathSeparators.{path_separator_of}
 use Rattle.linegrep_cli.specs.PrinterOptions.{color_choice, IsNew}
-use Rattle.linegrep_cli.specs.PrintingEngines.{IsUnsearched}
+use Rattle.linegrep_cli.specs.PrintingEngines.{IsNothingFound, IsUnsearched}
 use Rattle.linegrep_cli.specs.RunScopes.{IsScopeOf}
 use Rattle.linegrep_cli.specs.TerminalColors.{colors_for}
 use Rattle.linegrep_cli.specs.WriterFlushes.{IsWriterFlushed}
+use Rattle.linegrep_cli.specs.Worlds.{World}
 use Rattle.linegrep_cli.specs.declared.listing.Lister.{Lister}
 use Rattle.linegrep_cli.specs.declared.options.Options.{Options}
+use Rattle.linegrep_cli.specs.declared.search.Ended.{Ended}
 use Rattle.linegrep_cli.specs.declared.scope.Scope.{Scope}
 use Rattle.linegrep_files.specs.FolderFacts.{FolderFacts}
 use Rattle.linegrep_files.specs.declared.choices.Choices.{Choices}
-use Rattle.linegrep_files.specs.declared.file_id.FileId.{FileId}
 use Rattle.linegrep_options.specs.declared.option_id.OptionId.TheVariants.{Null, Quiet}
 
 -- how the paths of files are written that options ask to list: each in its color if there are
@@ -72,8 +73,8 @@ module _ {S W X : Type 0} (write_step : W → OutputCall → W → Type 0) where
       × IsPathWritten old shown searched new)
       ⊎ ((is_some old.path_separator ≡ true) × IsUnsearched searched × (new ≡ old))
 
-  -- all that is kept of what was written is written
-  pub record IsFlushedAll (old : Lister S W X) (result : Result (Unit {0}) Error)
+  -- before a text on standard error, all that is kept of what was written is written
+  pub record IsSaidAfter (old : Lister S W X) (result : Result (Unit {0}) Error)
       (new : Lister S W X) : Type 0 where
     pub flushed : IsWriterFlushed write_step old.writer old.printer result new.writer new.printer
     pub others : new ≡ record old {
@@ -82,45 +83,54 @@ module _ {S W X : Type 0} (write_step : W → OutputCall → W → Type 0) where
       errors = new.errors;
     }
 
+  -- all that is kept of what was written is written in the end
+  pub record IsAllWritten (old : Lister S W X) (result : Result (Unit {0}) Error)
+      (new : Lister S W X) : Type 0 where
+    pub flushed : IsWriterFlushed write_step old.writer old.printer result new.writer new.printer
+    pub others : new ≡ record old { printer = new.printer; writer = new.writer }
+
   -- what one call does, by what a system may say. Nothing is searched
   abbrev pub IsListerStep : {F : Type 0} → (S → FolderFacts) → Lister S W X → EngineCall F
       → Lister S W X → Type 0
-  IsListerStep facts_of old (searches_file path file searched) new = new ≡ old
-  IsListerStep facts_of old (searches_input path searched) new = new ≡ old
+  IsListerStep facts_of old (searches_file path file searched) new =
+      IsNothingFound searched × (new ≡ old)
+  IsListerStep facts_of old (searches_input path searched) new =
+      IsNothingFound searched × (new ≡ old)
   IsListerStep facts_of old (lists path searched) new = IsListed facts_of old path searched new
-  IsListerStep facts_of old (says result) new = IsFlushedAll old result new
+  IsListerStep facts_of old (says result) new = IsSaidAfter old result new
   IsListerStep facts_of old (sets_quits quits) new = new ≡ old
-  IsListerStep facts_of old (finishes result) new = IsFlushedAll old result new
+  IsListerStep facts_of old (finishes result) new = IsAllWritten old result new
 
--- the engine that options ask for, by what a system says. It has written nothing yet
-pub record IsListerFor {S W X : Type 0} (facts_of : S → FolderFacts) (system : S)
-    (options : Options) (writer : W) (errors : X) (lister : Lister S W X) : Type 0 where
-  pub chosen : Option (Bor ColorTexts)
-  pub colored : AreColorsLent options chosen
-  pub printer : IsPathPrinterOf options chosen lister.printer
-  pub is_quiet : lister.is_quiet ≡ has options Quiet
-  pub writes_to : lister.writer ≡ writer
-  pub says : lister.errors.now ≡ errors
-  pub path_separator : lister.path_separator ≡ path_separator_of options
-  pub hyperlinks : AreHyperlinksLent (facts_of system) options lister.hyperlinks
-  pub asks_system : lister.system.now ≡ system
+-- By what surrounds a run.
+module _ {S F R W X : Type 0} (world : World S F R W X) (system : S) where
+  -- the engine that options ask for. It has written nothing yet
+  pub record IsListerFor (options : Options) (output : W) (errors : X) (lister : Lister S W X)
+      : Type 0 where
+    pub chosen : Option (Bor ColorTexts)
+    pub colored : AreColorsLent options chosen
+    pub printer : IsPathPrinterOf options chosen lister.printer
+    pub is_quiet : lister.is_quiet ≡ has options Quiet
+    pub writes_to : lister.writer ≡ output
+    pub says : lister.errors.now ≡ errors
+    pub path_separator : lister.path_separator ≡ path_separator_of options
+    pub hyperlinks : AreHyperlinksLent (world.folders.facts system) options lister.hyperlinks
+    pub asks_system : lister.system.now ≡ system
 
--- a run that lists files, by options that are accepted, with the choices of files and the engine
--- that they ask for. Nothing is read of standard input
-pub record IsListingRun {S F R W X : Type 0} (write_step : W → OutputCall → W → Type 0)
-    (facts_of : S → FolderFacts) (system : S) (finds : List ℕ → Result Bool Error → Type 0)
-    (opens : List ℕ → Result F Error → Type 0) (identifies : F → Option FileId → Type 0)
-    (options : Options) (input : R) (writer : W) (errors : X) (status : ℕ) (input' : R)
-    (writer' : W) : Type 0 where
-  pub accepted : AreAcceptedForFiles (facts_of system) options
-  pub scope : Scope
-  pub is_scope : IsScopeOf finds options scope
-  pub choices : Choices
-  pub are_choices : AreChoicesOf (facts_of system) options choices
-  pub first : Lister S W X
-  pub last : Lister S W X
-  pub begins : IsListerFor facts_of system options writer errors first
-  pub run : IsRunOver (facts_of system) finds opens identifies (IsListerStep write_step facts_of)
-      (λ lister. lister.printer.has_failed) scope choices (paths_of options) first status last
-  pub unread : input' ≡ input
-  pub writer_after : writer' ≡ last.writer
+  -- a run that lists files, by options that are accepted, with the choices of files and the engine
+  -- that they ask for. Nothing is read of standard input
+  pub record IsListingRun (options : Options) (input : R) (output : W) (errors : X)
+      (ended : Ended R W) : Type 0 where
+    pub accepted : AreAcceptedForFiles (world.folders.facts system) options
+    pub scope : Scope
+    pub is_scope : IsScopeOf (world.system.finds system) options scope
+    pub choices : Choices
+    pub are_choices : AreChoicesOf (world.folders.facts system) options choices
+    pub first : Lister S W X
+    pub last : Lister S W X
+    pub begins : IsListerFor options output errors first
+    pub run : IsRunOver (world.folders.facts system) (world.system.finds system)
+        (world.opening.opens system) (world.system.identifies system)
+        (IsListerStep world.output.step world.folders.facts) (λ lister. lister.printer.has_failed)
+        scope choices (paths_of options) first ended.status last
+    pub unread : ended.input ≡ input
+    pub output_after : ended.output ≡ last.writer

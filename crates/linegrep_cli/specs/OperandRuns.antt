@@ -243,8 +243,8 @@ module _ {E F : Type 0} (step : E → EngineCall F → E → Type 0) (has_failed
       × step old (searches_file (path_of scope path) file searched) mid
       × IsKept mid searched visit new
 
-  -- after a visit of the current folder: if no file was searched in it, and nothing failed, standard
-  -- error says so
+  -- after a visit of the current folder: if no file was searched in it, and nothing failed,
+  -- standard error says so
   abbrev pub IsNoneSaid : Visit → E → Visit → E → Type 0
   IsNoneSaid before mid visit new = MatchBool
       (is_none before.failure && not before.has_searched && not scope.lists_files)

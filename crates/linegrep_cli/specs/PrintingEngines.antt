@@ -31,6 +31,11 @@ abbrev pub detection_with : Bool → BinaryDetection → BinaryDetection
 detection_with quits (Convert byte) = if quits then Quit byte else Convert byte
 detection_with quits detection = detection
 
+-- there was nothing to be done
+pub record IsNothingFound (searched : Searched) : Type 0 where
+  pub unmatched : searched.has_match ≡ false
+  pub ok : searched.result ≡ Ok tt
+
 -- nothing was searched, since there is no memory
 abbrev pub IsUnsearched : Searched → Type 0
 IsUnsearched searched = (searched.has_match ≡ false) × ((error : Error)
@@ -103,7 +108,7 @@ module _ {S F M R W X E : Type 0} (output : E → Option (List ℕ)) (facts : M 
       IsDoneShown facts_of old.hyperlinks (IsSearched (Some file)) path old searched new
   IsEngineStep facts_of old (searches_input path searched) new =
       IsDoneShown facts_of None (IsSearched None) path old searched new
-  IsEngineStep facts_of old (lists path searched) new = new ≡ old
+  IsEngineStep facts_of old (lists path searched) new = IsNothingFound searched × (new ≡ old)
   IsEngineStep facts_of old (says result) new = IsSaidAfter old result new
   IsEngineStep facts_of old (sets_quits quits) new = new ≡ record old {
     searcher = record old.searcher {

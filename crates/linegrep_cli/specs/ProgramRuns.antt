@@ -32,16 +32,18 @@ use Rattle.linegrep_cli.specs.OptionMeanings.{paths_of}
 use Rattle.linegrep_cli.specs.OptionUses.{has}
 use Rattle.linegrep_cli.specs.OptionValues.{AreLists, AreOptions, names_input}
 use Rattle.linegrep_cli.specs.Listings.{IsListingRun}
-use Rattle.linegrep_cli.specs.Refusals.{IsCause, IsCauseForFiles, IsRefusedFor, IsSaid}
-use Rattle.linegrep_cli.specs.WholeRuns.{IsRefused, IsWholeRun}
+use Rattle.linegrep_cli.specs.Refusals.{IsCause, IsCauseForFiles, IsRefusedFor, IsRefusedWith}
+use Rattle.linegrep_cli.specs.Refusals.{IsRefusedWithoutMemory}
+use Rattle.linegrep_cli.specs.WholeRuns.{IsWholeRun}
+use Rattle.linegrep_cli.specs.Worlds.{World}
 use Rattle.linegrep_cli.specs.declared.lists.Lists.{Lists}
 use Rattle.linegrep_cli.specs.declared.options.Options.{Options}
 use Rattle.linegrep_cli.specs.declared.program.Streams.{Streams}
-use Rattle.linegrep_files.specs.Failures.{has_cause, text_of}
+use Rattle.linegrep_cli.specs.declared.search.Ended.{Ended}
+use Rattle.linegrep_files.specs.Failures.{has_cause}
 use Rattle.linegrep_files.specs.FolderFacts.{FolderFacts}
 use Rattle.linegrep_files.specs.TypeDefinitions.{HaveMalformed, IsTypeListOf}
 use Rattle.linegrep_files.specs.declared.failures.Failure.{Failure}
-use Rattle.linegrep_files.specs.declared.file_id.FileId.{FileId}
 use Rattle.linegrep_help.specs.GeneratedTexts.{generated}
 use Rattle.linegrep_help.specs.HelpTexts.{help, short_help, version}
 
@@ -51,10 +53,13 @@ HasAnswerStatus (Ok u) status = status ≡ 0
 HasAnswerStatus (Err error) status = ((error_kind error ≡ BrokenPipe) × (status ≡ 0))
     ⊎ ((error_kind error ≢ BrokenPipe) × (status ≡ 2))
 
--- a text is the answer, as help is: it is written and flushed
-abbrev pub IsAnswered : {W : Type 0} → (W → OutputCall → W → Type 0) → List ℕ → W → ℕ → W → Type 0
-IsAnswered write_step text writer status writer' = (written : Result (Unit {0}) Error)
-    × Flushes write_step writer text written writer' × HasAnswerStatus written status
+-- a text is the answer, as help is: it is written and flushed, and nothing is read
+pub record IsAnswered {R W : Type 0} (write_step : W → OutputCall → W → Type 0) (text : List ℕ)
+    (input : R) (output : W) (ended : Ended R W) : Type 0 where
+  pub unread : ended.input ≡ input
+  pub written : Result (Unit {0}) Error
+  pub flushed : Flushes write_step output text written ended.output
+  pub status : HasAnswerStatus written ended.status
 
 -- the kind of the text that is to be generated, if one is
 abbrev pub kind_asked : List Use → List ℕ
@@ -86,13 +91,6 @@ exclude_each_other options = nat_lt 3 (length (places_of Unrestricted 1 options.
     || nat_lt 1 (inputs_named options.uses.now)
     || (nat_lt 0 (inputs_named options.uses.now) && searches_named_input options)
 
--- a run that is refused, which is said
-pub record IsRefusal {R W X : Type 0} (say_step : X → OutputCall → X → Type 0) (input : R)
-    (writer : W) (errors : X) (failure : Failure) (status : ℕ) (input' : R) (writer' : W)
-    (errors' : X) : Type 0 where
-  pub refused : IsRefused input writer status input' writer'
-  pub said : IsSaid say_step (text_of failure) errors errors'
-
 -- why options are refused before anything is searched or listed: they ask for the list of types,
 -- and a definition of a type isn't well formed; they don't go together; or there is no pattern
 pub data AreRefused {R : Type 0} (remaining : R → Option (List ℕ))
@@ -106,87 +104,79 @@ pub data AreRefused {R : Type 0} (remaining : R → Option (List ℕ))
       → LackPatterns remaining read_step folders.reads options input input'
       → AreRefused remaining read_step folders options input input'
 
-module _ {S F R W X : Type 0} (output : AllocError → Option (List ℕ))
-    (write_step : W → OutputCall → W → Type 0) (say_step : X → OutputCall → X → Type 0)
-    (file_remaining : F → Option (List ℕ)) (remaining : R → Option (List ℕ))
-    (read_step : R → ReadResult → R → Type 0) (facts_of : S → FolderFacts) (system : S)
-    (finds : List ℕ → Result Bool Error → Type 0) (opens : List ℕ → Result F Error → Type 0)
-    (identifies : F → Option FileId → Type 0) where
+-- By the text of an error of memory, and by what surrounds a run.
+module _ {S F R W X : Type 0} (message : AllocError → Option (List ℕ)) (world : World S F R W X)
+    (system : S) where
   -- what the program does by its options. A text that is asked for is written; otherwise the list
   -- of types, if that is asked for; otherwise files are listed, if that is asked for, or the
   -- patterns are searched for, or the run is refused. If memory is out, nothing is written
-  pub data IsOptionsRun (options : Options) (input : R) (writer : W) (errors : X)
-      : ℕ → R → W → X → Type 0 where
-    without_memory : {status : ℕ} {input' : R} {writer' : W} {errors' : X} (failure : Failure)
-        → has_cause failure ≡ false
-        → IsRefusal say_step input writer errors failure status input' writer' errors'
-        → IsOptionsRun options input writer errors status input' writer' errors'
-    of_text : {status : ℕ} {input' : R} {writer' : W} {errors' : X} (text : List ℕ)
-        → text_asked options ≡ Some text → input' ≡ input
-        → IsAnswered write_step text writer status writer'
-        → IsOptionsRun options input writer errors status input' writer' errors'
-    of_types : {status : ℕ} {input' : R} {writer' : W} {errors' : X} (text : List ℕ)
+  pub data IsOptionsRun (options : Options) (input : R) (output : W) (errors : X)
+      : Ended R W → X → Type 0 where
+    without_memory : {ended : Ended R W} {errors' : X}
+        → IsRefusedWithoutMemory world.errors.step input output errors ended errors'
+        → IsOptionsRun options input output errors ended errors'
+    of_text : {ended : Ended R W} {errors' : X} (text : List ℕ)
+        → text_asked options ≡ Some text
+        → IsAnswered world.output.step text input output ended
+        → IsOptionsRun options input output errors ended errors'
+    of_types : {ended : Ended R W} {errors' : X} (text : List ℕ)
         → text_asked options ≡ None → has options TypeList ≡ true → IsTypeListOf options.types text
-        → input' ≡ input → IsAnswered write_step text writer status writer'
-        → IsOptionsRun options input writer errors status input' writer' errors'
-    of_refusal : {status : ℕ} {input' : R} {writer' : W} {errors' : X} (mid : R) (failure : Failure)
+        → IsAnswered world.output.step text input output ended
+        → IsOptionsRun options input output errors ended errors'
+    of_refusal : {ended : Ended R W} {errors' : X} (mid : R) (failure : Failure)
         → text_asked options ≡ None → (has_cause failure ≡ true
-        → AreRefused remaining read_step (facts_of system) options input mid)
-        → IsRefusal say_step mid writer errors failure status input' writer' errors'
-        → IsOptionsRun options input writer errors status input' writer' errors'
-    of_listing : {status : ℕ} {input' : R} {writer' : W} {errors' : X}
+        → AreRefused world.input.remaining world.input.step (world.folders.facts system) options
+        input mid)
+        → IsRefusedWith world.errors.step failure mid output errors ended errors'
+        → IsOptionsRun options input output errors ended errors'
+    of_listing : {ended : Ended R W} {errors' : X}
         → text_asked options ≡ None → has options TypeList ≡ false
         → exclude_each_other options ≡ false → has options Files ≡ true
-        → IsRefusedFor say_step (IsCauseForFiles (facts_of system) options) input writer errors
-        status input' writer' errors'
-        ⊎ IsListingRun write_step facts_of system finds opens identifies options input writer
-        errors status input' writer'
-        → IsOptionsRun options input writer errors status input' writer' errors'
-    of_search : {status : ℕ} {input' : R} {writer' : W} {errors' : X}
-        (patterns : List (String Global)) (mid : R)
+        → IsRefusedFor world.errors.step (IsCauseForFiles (world.folders.facts system) options)
+        input output errors ended errors'
+        ⊎ IsListingRun world system options input output errors ended
+        → IsOptionsRun options input output errors ended errors'
+    of_search : {ended : Ended R W} {errors' : X} (patterns : List (String Global)) (mid : R)
         → text_asked options ≡ None → has options TypeList ≡ false
         → exclude_each_other options ≡ false → has options Files ≡ false
-        → ArePatterns remaining read_step (facts_of system).reads options input
-        (map string_bytes patterns) mid
-        → IsRefusedFor say_step (IsCause (facts_of system) options patterns) mid writer errors
-        status input' writer' errors'
-        ⊎ IsWholeRun output write_step file_remaining remaining read_step facts_of system finds
-        opens identifies options patterns mid writer errors status input' writer'
-        → IsOptionsRun options input writer errors status input' writer' errors'
+        → ArePatterns world.input.remaining world.input.step (world.folders.facts system).reads
+        options input (map string_bytes patterns) mid
+        → IsRefusedFor world.errors.step (IsCause (world.folders.facts system) options patterns)
+        mid output errors ended errors'
+        ⊎ IsWholeRun message world system options patterns mid output errors ended
+        → IsOptionsRun options input output errors ended errors'
 
   -- what the program does by parsed arguments: what the options say, unless memory is out
-  pub data IsParsedRun (parsed : Parsed) (streams : Streams) (input : R) (writer : W) (errors : X)
-      : ℕ → R → W → X → Type 0 where
-    out_of_memory : {status : ℕ} {input' : R} {writer' : W} {errors' : X} (failure : Failure)
-        → has_cause failure ≡ false
-        → IsRefusal say_step input writer errors failure status input' writer' errors'
-        → IsParsedRun parsed streams input writer errors status input' writer' errors'
-    of_options : {status : ℕ} {input' : R} {writer' : W} {errors' : X} (options : Options)
+  pub data IsParsedRun (parsed : Parsed) (streams : Streams) (input : R) (output : W) (errors : X)
+      : Ended R W → X → Type 0 where
+    out_of_memory : {ended : Ended R W} {errors' : X}
+        → IsRefusedWithoutMemory world.errors.step input output errors ended errors'
+        → IsParsedRun parsed streams input output errors ended errors'
+    of_options : {ended : Ended R W} {errors' : X} (options : Options)
         (uses : Bor (List Use)) (operands : List (Bor (List ℕ))) (lists : Lists)
         → uses.now ≡ parsed.uses.items
         → map (λ operand. operand.now) operands ≡ operand_texts parsed.operands.items
         → AreLists uses.now operands lists → AreOptions uses lists streams options
-        → IsOptionsRun options input writer errors status input' writer' errors'
-        → IsParsedRun parsed streams input writer errors status input' writer' errors'
+        → IsOptionsRun options input output errors ended errors'
+        → IsParsedRun parsed streams input output errors ended errors'
 
   -- what the program does. Its words are those of the file of options and of the command line. If
   -- they aren't a command line, it says so; otherwise it does what they say, unless memory is out.
   -- `said` is standard error once it is known which words these are
   pub data IsProgramRun (arguments : List (Vec ℕ Global)) (streams : Streams) (input : R)
-      (writer : W) (errors : X) : ℕ → R → W → X → Type 0 where
-    of_fault : {status : ℕ} {input' : R} {writer' : W} {errors' : X} (words : List (Vec ℕ Global))
-        (said : X) (refusal : Refusal) (failure : Failure)
-        → AreWords say_step (facts_of system) arguments errors words said
+      (output : W) (errors : X) : Ended R W → X → Type 0 where
+    of_fault : {ended : Ended R W} {errors' : X} (words : List (Vec ℕ Global)) (said : X)
+        (refusal : Refusal) (failure : Failure)
+        → AreWords world.errors.step (world.folders.facts system) arguments errors words said
         → reading_of (texts words) ≡ Refused refusal
-        → IsRefusal say_step input writer said failure status input' writer' errors'
-        → IsProgramRun arguments streams input writer errors status input' writer' errors'
-    no_memory : {status : ℕ} {input' : R} {writer' : W} {errors' : X} (failure : Failure)
-        → has_cause failure ≡ false
-        → IsRefusal say_step input writer errors failure status input' writer' errors'
-        → IsProgramRun arguments streams input writer errors status input' writer' errors'
-    of_parsed : {status : ℕ} {input' : R} {writer' : W} {errors' : X} (words : List (Vec ℕ Global))
-        (said : X) (parsed : Parsed)
-        → AreWords say_step (facts_of system) arguments errors words said
+        → IsRefusedWith world.errors.step failure input output said ended errors'
+        → IsProgramRun arguments streams input output errors ended errors'
+    no_memory : {ended : Ended R W} {errors' : X}
+        → IsRefusedWithoutMemory world.errors.step input output errors ended errors'
+        → IsProgramRun arguments streams input output errors ended errors'
+    of_parsed : {ended : Ended R W} {errors' : X} (words : List (Vec ℕ Global)) (said : X)
+        (parsed : Parsed)
+        → AreWords world.errors.step (world.folders.facts system) arguments errors words said
         → AreRead words parsed
-        → IsParsedRun parsed streams input writer said status input' writer' errors'
-        → IsProgramRun arguments streams input writer errors status input' writer' errors'
+        → IsParsedRun parsed streams input output said ended errors'
+        → IsProgramRun arguments streams input output errors ended errors'

@@ -1,5 +1,5 @@
 -- When a run is refused, and what is said of it.
-use Rattle.std.specs.Prelude.{◌≡◌, ◌≢◌, ℕ, true, List, Result}
+use Rattle.std.specs.Prelude.{◌≡◌, ◌≢◌, ℕ, false, true, List, Result}
 use Rattle.std.specs.Prelude.{String, map, string_bytes}
 use Rattle.std.specs.Global.{Global}
 use Rattle.std.specs.declared.io.Error.{Error}
@@ -15,7 +15,7 @@ use Rattle.linegrep_cli.specs.PatternOptions.{pattern_options, pattern_texts}
 use Rattle.linegrep_cli.specs.PatternOptions.{refuses_size_limits}
 use Rattle.linegrep_cli.specs.RunScopes.{order_for}
 use Rattle.linegrep_cli.specs.SearcherOptions.{refuses_label}
-use Rattle.linegrep_cli.specs.WholeRuns.{IsRefused}
+use Rattle.linegrep_cli.specs.declared.search.Ended.{Ended}
 use Rattle.linegrep_cli.specs.declared.options.Options.{Options}
 use Rattle.linegrep_files.specs.Choices.{AreFilesRefused}
 use Rattle.linegrep_files.specs.Failures.{has_cause, text_of}
@@ -58,11 +58,25 @@ abbrev pub IsSaid : {X : Type 0} → (X → OutputCall → X → Type 0) → Lis
 IsSaid say_step text old new = (written : Result (Unit {0}) Error)
     × Writes say_step old text written new
 
--- a run is refused for a cause, or says that there is no memory
-pub record IsRefusedFor {R W X : Type 0} (say_step : X → OutputCall → X → Type 0) (Cause : Type 0)
-    (input : R) (writer : W) (errors : X) (status : ℕ) (input' : R) (writer' : W) (errors' : X)
+-- a run is refused, and standard error says why: nothing is read or written
+pub record IsRefusedWith {R W X : Type 0} (say_step : X → OutputCall → X → Type 0)
+    (failure : Failure) (input : R) (output : W) (errors : X) (ended : Ended R W) (errors' : X)
     : Type 0 where
-  pub refused : IsRefused input writer status input' writer'
-  pub failure : Failure
+  pub status : ended.status ≡ 2
+  pub unread : ended.input ≡ input
+  pub unwritten : ended.output ≡ output
   pub said : IsSaid say_step (text_of failure) errors errors'
+
+-- a run is refused since there is no memory
+abbrev pub IsRefusedWithoutMemory : {R W X : Type 0} → (X → OutputCall → X → Type 0) → R → W → X
+    → Ended R W → X → Type 0
+IsRefusedWithoutMemory say_step input output errors ended errors' =
+    (failure : Failure) × (has_cause failure ≡ false)
+    × IsRefusedWith say_step failure input output errors ended errors'
+
+-- a run is refused for a cause, or since there is no memory
+pub record IsRefusedFor {R W X : Type 0} (say_step : X → OutputCall → X → Type 0) (Cause : Type 0)
+    (input : R) (output : W) (errors : X) (ended : Ended R W) (errors' : X) : Type 0 where
+  pub failure : Failure
+  pub refused : IsRefusedWith say_step failure input output errors ended errors'
   pub caused : has_cause failure ≡ true → Cause

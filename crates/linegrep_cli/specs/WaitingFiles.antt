@@ -11,7 +11,7 @@ use Rattle.grep_printer.specs.declared.printed_search.Searched.{Searched}
 use Rattle.grep_searcher.specs.declared.SearchError.{SearchError}
 use Rattle.linegrep_cli.specs.EngineCalls.{EngineCall, finishes, lists, says, searches_file}
 use Rattle.linegrep_cli.specs.EngineCalls.{searches_input, sets_quits}
-use Rattle.linegrep_cli.specs.PrintingEngines.{IsUnsearched}
+use Rattle.linegrep_cli.specs.PrintingEngines.{IsNothingFound, IsUnsearched}
 use Rattle.linegrep_cli.specs.declared.late.Collector.{Collector}
 use Rattle.linegrep_cli.specs.declared.late.Target.{Target}
 use Rattle.linegrep_cli.specs.declared.late.Target.TheVariants.{File, StandardInput}
@@ -55,7 +55,7 @@ pub record IsTextKept (old : Collector) (said : Result (Unit {0}) Error)
 -- a call of a collector. It keeps standard input under its name, each file that is listed, and what
 -- is said
 abbrev pub IsCollecting : {F : Type 0} → Collector → EngineCall F → Collector → Type 0
-IsCollecting old (searches_file path file searched) new = new ≡ old
+IsCollecting old (searches_file path file searched) new = IsNothingFound searched × (new ≡ old)
 IsCollecting old (searches_input path searched) new =
     IsFound StandardInput (codes "<stdin>") old searched new
 IsCollecting old (lists path searched) new = IsFound (File old.quits) path.now old searched new

@@ -1,11 +1,9 @@
 -- What a run does from its options on, and what it writes.
-use Rattle.std.specs.Prelude.{◌≡◌, ◌⊎◌, ℕ, Bool, List, Option, None, Result, String}
+use Rattle.std.specs.Prelude.{◌≡◌, ◌⊎◌, ℕ, List, Option, None, String}
 use Rattle.std.specs.Borrow.{Bor}
 use Rattle.std.specs.Global.{Global}
 use Rattle.std.specs.declared.alloc.AllocError.{AllocError}
-use Rattle.std.specs.declared.io.Error.{Error}
 use Rattle.std.specs.declared.marker.Brand.{Brand}
-use Rattle.grep_output.specs.Outputs.{OutputCall}
 use Rattle.grep_printer.specs.declared.colors.ColorTexts.{ColorTexts}
 use Rattle.grep_printer.specs.declared.separators.Separators.{Separators}
 use Rattle.grep_regex.specs.LiteralViews.{literal_regex}
@@ -20,7 +18,6 @@ use Rattle.grep_regex.specs.declared.regex.Regex.{Regex}
 use Rattle.grep_replace.specs.declared.template.Template.{Template}
 use Rattle.grep_searcher.specs.Meanings.{MatcherFacts}
 use Rattle.grep_searcher.specs.Plans.{is_across}
-use Rattle.grep_searcher.specs.Source.{ReadResult}
 use Rattle.grep_searcher.specs.declared.LineTerminator.{LineTerminator}
 use Rattle.linegrep_cli.specs.AcceptedOptions.{AreAccepted}
 use Rattle.linegrep_cli.specs.ColorOptions.{AreColorsLent}
@@ -37,12 +34,12 @@ use Rattle.linegrep_cli.specs.RunScopes.{IsScopeOf}
 use Rattle.linegrep_cli.specs.SearcherOptions.{searcher_settings}
 use Rattle.linegrep_cli.specs.SeparatorOptions.{AreLent}
 use Rattle.linegrep_cli.specs.TemplateOptions.{IsTemplateLent}
+use Rattle.linegrep_cli.specs.Worlds.{World}
 use Rattle.linegrep_cli.specs.declared.engine.PrintingEngine.{PrintingEngine}
-use Rattle.linegrep_files.specs.FolderFacts.{FolderFacts}
 use Rattle.linegrep_files.specs.declared.choices.Choices.{Choices}
-use Rattle.linegrep_files.specs.declared.file_id.FileId.{FileId}
 use Rattle.linegrep_cli.specs.declared.scope.Scope.{Scope}
 use Rattle.linegrep_cli.specs.declared.options.Options.{Options}
+use Rattle.linegrep_cli.specs.declared.search.Ended.{Ended}
 
 -- a matcher finds what a regular expression means, and can be trusted
 pub record IsMatcherOf {M E : Type 0} (facts : M → MatcherFacts E)
@@ -51,93 +48,84 @@ pub record IsMatcherOf {M E : Type 0} (facts : M → MatcherFacts E)
   pub first : first_at matcher ≡ regex_first_at regex
   pub trusted : (terminator : LineTerminator) → (facts matcher).is_lawful terminator
 
-module _ {S F M R W X E : Type 0} (output : E → Option (List ℕ)) (facts : M → MatcherFacts E)
+module _ {S F M R W X E : Type 0} (message : E → Option (List ℕ)) (facts : M → MatcherFacts E)
     (first_at : M → List ℕ → ℕ → Option (ℕ × ℕ))
-    (groups_at : M → List ℕ → ℕ → List (Option (ℕ × ℕ)))
-    (write_step : W → OutputCall → W → Type 0) (file_remaining : F → Option (List ℕ))
-    (remaining : R → Option (List ℕ)) (read_step : R → ReadResult → R → Type 0)
-    (facts_of : S → FolderFacts) (system : S) (finds : List ℕ → Result Bool Error → Type 0)
-    (opens : List ℕ → Result F Error → Type 0) (identifies : F → Option FileId → Type 0) where
-  -- the engine that options ask for. It has written nothing yet, and has no file open
-  pub record IsEngineFor (options : Options) (matcher : M) (template : Option (Bor Template))
-      (input : R) (writer : W) (errors : X) (engine : PrintingEngine S F M R W X) : Type 0 where
-    pub settings : engine.searcher.settings ≡ searcher_settings options
-    pub asks : engine.matcher ≡ matcher
-    pub separators : Option (Bor Separators)
-    pub lent : AreLent options separators
-    pub chosen : Option (Bor ColorTexts)
-    pub colored : AreColorsLent options chosen
-    pub printer : IsPrinterOf options
-        (is_across (searcher_settings options)
-        (facts matcher).meaning) separators chosen matcher template
-        engine.printer
-    pub writes_to : engine.writer ≡ writer
-    pub haystack : engine.haystack ≡ record { file = None; reader = input }
-    pub says : engine.errors.now ≡ errors
-    pub path_separator : engine.path_separator ≡ path_separator_of options
-    pub hyperlinks : AreHyperlinksLent (facts_of system) options engine.hyperlinks
-    pub asks_system : engine.system.now ≡ system
-    pub detection : engine.detection ≡ (searcher_settings options).binary_detection
+    (groups_at : M → List ℕ → ℕ → List (Option (ℕ × ℕ))) (world : World S F R W X) (system : S)
+  where
+    -- the engine that options ask for. It has written nothing yet, and has no file open
+    pub record IsEngineFor (options : Options) (matcher : M) (template : Option (Bor Template))
+        (input : R) (output : W) (errors : X) (engine : PrintingEngine S F M R W X) : Type 0 where
+      pub settings : engine.searcher.settings ≡ searcher_settings options
+      pub asks : engine.matcher ≡ matcher
+      pub separators : Option (Bor Separators)
+      pub lent : AreLent options separators
+      pub chosen : Option (Bor ColorTexts)
+      pub colored : AreColorsLent options chosen
+      pub printer : IsPrinterOf options
+          (is_across (searcher_settings options) (facts matcher).meaning) separators chosen matcher
+          template engine.printer
+      pub writes_to : engine.writer ≡ output
+      pub haystack : engine.haystack ≡ record { file = None; reader = input }
+      pub says : engine.errors.now ≡ errors
+      pub path_separator : engine.path_separator ≡ path_separator_of options
+      pub hyperlinks : AreHyperlinksLent (world.folders.facts system) options engine.hyperlinks
+      pub asks_system : engine.system.now ≡ system
+      pub detection : engine.detection ≡ (searcher_settings options).binary_detection
 
-  -- a run with a matcher and a template, over the operands of options that are accepted, with the
-  -- choices of files and the engine that they ask for
-  pub record IsRunWith (options : Options) (matcher : M) (template : Option (Bor Template))
-      (input : R) (writer : W) (errors : X) (status : ℕ) (input' : R) (writer' : W) : Type 0 where
-    pub accepted : AreAccepted (facts_of system) options
-    pub scope : Scope
-    pub first : PrintingEngine S F M R W X
-    pub last : PrintingEngine S F M R W X
-    pub is_scope : IsScopeOf finds options scope
-    pub choices : Choices
-    pub are_choices : AreChoicesOf (facts_of system) options choices
-    pub begins : IsEngineFor options matcher template input writer errors first
-    pub run : IsRunOver (facts_of system) finds opens identifies
-        (IsEngineStep output facts first_at groups_at write_step file_remaining remaining read_step
-        facts_of)
-        (λ engine. has_failed engine.printer) scope choices (paths_of options) first status last
-    pub input_after : input' ≡ last.haystack.reader
-    pub writer_after : writer' ≡ last.writer
+    -- a run with a matcher and a template, over the operands of options that are accepted, with the
+    -- choices of files and the engine that they ask for
+    pub record IsRunWith (options : Options) (matcher : M) (template : Option (Bor Template))
+        (input : R) (output : W) (errors : X) (ended : Ended R W) : Type 0 where
+      pub accepted : AreAccepted (world.folders.facts system) options
+      pub scope : Scope
+      pub first : PrintingEngine S F M R W X
+      pub last : PrintingEngine S F M R W X
+      pub is_scope : IsScopeOf (world.system.finds system) options scope
+      pub choices : Choices
+      pub are_choices : AreChoicesOf (world.folders.facts system) options choices
+      pub begins : IsEngineFor options matcher template input output errors first
+      pub run : IsRunOver (world.folders.facts system) (world.system.finds system)
+          (world.opening.opens system) (world.system.identifies system)
+          (IsEngineStep message facts first_at groups_at world.output.step world.files.remaining
+          world.input.remaining world.input.step world.folders.facts)
+          (λ engine. has_failed engine.printer) scope choices (paths_of options) first ended.status
+          last
+      pub input_after : ended.input ≡ last.haystack.reader
+      pub output_after : ended.output ≡ last.writer
 
-  -- a run for a regular expression: a run with a matcher of the expression, and with a template for
-  -- its groups, if there is one
-  pub record IsRunFor (options : Options) (regex : Regex) (input : R) (writer : W)
-      (errors : X) (status : ℕ) (input' : R) (writer' : W) : Type 0 where
-    pub matcher : M
-    pub is_matcher : IsMatcherOf facts first_at regex matcher
-    pub template : Option (Bor Template)
-    pub is_template : IsTemplateLent options regex template
-    pub groups : groups_at matcher ≡ regex_groups_at regex
-    pub run : IsRunWith options matcher template input writer errors status input' writer'
-
--- a run that is refused: nothing is read or written
-pub record IsRefused {R W : Type 0} (input : R) (writer : W) (status : ℕ) (input' : R)
-    (writer' : W) : Type 0 where
-  pub status_is : status ≡ 2
-  pub unread : input' ≡ input
-  pub unwritten : writer' ≡ writer
+    -- a run for a regular expression: a run with a matcher of the expression, and with a template for
+    -- its groups, if there is one
+    pub record IsRunFor (options : Options) (regex : Regex) (input : R) (output : W) (errors : X)
+        (ended : Ended R W) : Type 0 where
+      pub matcher : M
+      pub is_matcher : IsMatcherOf facts first_at regex matcher
+      pub template : Option (Bor Template)
+      pub is_template : IsTemplateLent options regex template
+      pub groups : groups_at matcher ≡ regex_groups_at regex
+      pub run : IsRunWith options matcher template input output errors ended
 
 -- the name of a regular expression: its options, and the texts of its patterns
 abbrev pub naming_of : Regex → Ghosts Brand
 naming_of regex = record { options = regex_options regex; patterns = regex_patterns regex }
 
 -- a matcher that has a name
-abbrev pub Named : Ghosts Brand → Type 0
-Named naming = Bor (NamedMatcher Brand naming)
+abbrev pub Named : {N : Type 0} → Ghosts N → Type 0
+Named {N} naming = Bor (NamedMatcher N naming)
 
--- what a named matcher finds, from a place on. It may fail at any question, and can be trusted
-abbrev pub named_facts : {naming : Ghosts Brand} → Named naming → MatcherFacts AllocError
-named_facts matcher = record {
-  meaning = regex_meaning (named_regex matcher.now);
-  fails = λ haystack error. Unit {0};
-  is_lawful = λ terminator. Unit {0};
-}
+module _ {N : Type 0} {naming : Ghosts N} where
+  -- what a named matcher finds, from a place on. It may fail at any question, and can be trusted
+  abbrev pub named_facts : Named naming → MatcherFacts AllocError
+  named_facts matcher = record {
+    meaning = regex_meaning (named_regex matcher.now);
+    fails = λ haystack error. Unit {0};
+    is_lawful = λ terminator. Unit {0};
+  }
 
-abbrev pub named_first_at : {naming : Ghosts Brand} → Named naming → List ℕ → ℕ → Option (ℕ × ℕ)
-named_first_at matcher = regex_first_at (named_regex matcher.now)
+  abbrev pub named_first_at : Named naming → List ℕ → ℕ → Option (ℕ × ℕ)
+  named_first_at matcher = regex_first_at (named_regex matcher.now)
 
-abbrev pub named_groups_at : {naming : Ghosts Brand} → Named naming → List ℕ → ℕ
-    → List (Option (ℕ × ℕ))
-named_groups_at matcher = regex_groups_at (named_regex matcher.now)
+  abbrev pub named_groups_at : Named naming → List ℕ → ℕ → List (Option (ℕ × ℕ))
+  named_groups_at matcher = regex_groups_at (named_regex matcher.now)
 
 -- a matcher of a literal
 abbrev pub Literal : Type 0
@@ -157,26 +145,25 @@ literal_first_at matcher = regex_first_at (literal_regex matcher.now)
 abbrev pub literal_groups_at : Literal → List ℕ → ℕ → List (Option (ℕ × ℕ))
 literal_groups_at matcher = regex_groups_at (literal_regex matcher.now)
 
--- a whole run, by its options and patterns. The patterns are compiled as the options say, to tables
--- that are no larger than these allow, and the run is one for the expression that they give
-pub record IsWholeRun {S F R W X : Type 0} (output : AllocError → Option (List ℕ))
-    (write_step : W → OutputCall → W → Type 0) (file_remaining : F → Option (List ℕ))
-    (remaining : R → Option (List ℕ)) (read_step : R → ReadResult → R → Type 0)
-    (facts_of : S → FolderFacts) (system : S) (finds : List ℕ → Result Bool Error → Type 0)
-    (opens : List ℕ → Result F Error → Type 0) (identifies : F → Option FileId → Type 0)
-    (options : Options)
-    (patterns : List (String Global)) (input : R) (writer : W) (errors : X) (status : ℕ)
-    (input' : R) (writer' : W) : Type 0 where
-  pub regex : Regex
-  pub has_options : regex_options regex ≡ pattern_options options patterns
-  pub has_patterns : regex_patterns regex ≡ pattern_texts options patterns
-  pub sized : AreSized (pattern_options options patterns) (pattern_texts options patterns)
-      (regex_programs regex)
-  pub run : IsRunFor {M = Literal} output literal_facts literal_first_at literal_groups_at
-      write_step file_remaining remaining read_step facts_of system finds opens identifies options
-      regex input writer errors
-      status input' writer'
-      ⊎ IsRunFor {M = Named (naming_of regex)} output named_facts named_first_at named_groups_at
-      write_step file_remaining remaining read_step facts_of system finds opens identifies options
-      regex input writer errors
-      status input' writer'
+-- By the text of an error of memory, and by what surrounds a run.
+module _ {S F R W X : Type 0} (message : AllocError → Option (List ℕ)) (world : World S F R W X)
+    (system : S) where
+  -- a run with the matcher that an expression has: that of a literal, or one that has a name
+  abbrev pub IsRunOf : {N : Type 0} → Ghosts N → Options → Regex → R → W → X → Ended R W → Type 0
+  IsRunOf naming options regex input output errors ended =
+      IsRunFor {M = Literal} message literal_facts literal_first_at literal_groups_at world system
+      options regex input output errors ended
+      ⊎ IsRunFor {M = Named naming} message named_facts named_first_at named_groups_at world system
+      options regex input output errors ended
+
+  -- a whole run, by its options and patterns. The patterns are compiled as the options say, to
+  -- tables that are no larger than these allow, and the run is one for the expression that they
+  -- give
+  pub record IsWholeRun (options : Options) (patterns : List (String Global)) (input : R)
+      (output : W) (errors : X) (ended : Ended R W) : Type 0 where
+    pub regex : Regex
+    pub has_options : regex_options regex ≡ pattern_options options patterns
+    pub has_patterns : regex_patterns regex ≡ pattern_texts options patterns
+    pub sized : AreSized (pattern_options options patterns) (pattern_texts options patterns)
+        (regex_programs regex)
+    pub run : IsRunOf (naming_of regex) options regex input output errors ended

@@ -4,7 +4,7 @@ ghost use Rattle.linegrep_cli.specs.EngineCalls.{EngineCall, finishes, lists, sa
 ghost use Rattle.linegrep_cli.specs.EngineCalls.{searches_file, searches_input, sets_quits};
 ghost use Rattle.linegrep_cli.specs.EngineSteps.{IsWrittenError};
 ghost use Rattle.linegrep_cli.specs.HyperlinkOptions.{LeadsTo};
-ghost use Rattle.linegrep_cli.specs.PrintingEngines.{IsDoneShown, IsSearched};
+ghost use Rattle.linegrep_cli.specs.PrintingEngines.{IsDoneShown, IsNothingFound, IsSearched};
 ghost use Rattle.linegrep_cli.specs.PrintingEngines.{IsUnsearched, detection_with};
 
 use crate::failures::say;
@@ -20,12 +20,13 @@ use linegrep_files::Folders;
 use std::io;
 use std::io::Read;
 
-/// An engine searches files and standard input, or lists files, and says what goes wrong. A run over
-/// files is generic in it, so that it is proved without knowing what a searcher and a printer
+/// An engine searches files and standard input, or lists files, and says what goes wrong. A run
+/// over files is generic in it, so that it is proved without knowing what a searcher and a printer
 /// consist of.
 ///
 /// A run that lists files calls `list`, and neither `search_file` nor `search_input`. Any other run
-/// doesn't call `list`. What an engine isn't for does nothing.
+/// doesn't call `list`. An engine does nothing in a call that it isn't for, and has found nothing
+/// then.
 ///
 /// Clauses know an engine by its steps: the state before a call, the call with what it was given
 /// and returned, and the state after.
@@ -294,8 +295,7 @@ pub fn printer_path<'p>(
 
 /// The result if nothing was to be done.
 pub fn nothing_found() -> Searched
-    ensures unmatched { result.has_match ≡ false }
-    ensures ok { result.result ≡ Ok tt }
+    ensures { IsNothingFound result }
 {
     Searched {
         has_match: false,

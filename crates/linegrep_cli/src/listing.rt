@@ -6,6 +6,7 @@ ghost use Rattle.grep_printer.specs.declared.colors.ColorTexts.{ColorTexts};
 ghost use Rattle.linegrep_cli.specs.Listings.{IsListingRun, IsPathPrinterOf, IsPathWritten};
 ghost use Rattle.linegrep_cli.specs.OptionUses.{has};
 ghost use Rattle.linegrep_cli.specs.Refusals.{IsCauseForFiles, IsRefusedFor};
+ghost use Rattle.linegrep_cli.specs.Worlds.{world_of};
 
 use crate::colors::color_specs;
 use crate::engine::{Engine, nothing_found, printer_path, unsearched};
@@ -22,6 +23,7 @@ use grep_output::Output;
 use grep_printer::{
     ColorTexts, HyperlinkConfig, PathPrinter, PathPrinterBuilder, PrinterPath, Searched,
 };
+use grep_searcher::Source;
 use linegrep_files::Folders;
 use linegrep_options::OptionId;
 use std::io;
@@ -193,9 +195,9 @@ impl<'e, F: Drop, S: Folders, W: Output, E: Output> Engine<F> for Lister<'e, S, 
 ///
 /// The status is 0 if there is a file, 1 if there is none, and 2 if something can't be read; then
 /// standard error says so, unless `--no-messages` is given. If a setting or a glob isn't well
-/// formed, or there is no memory, the status is 2, and nothing is written to `output`.
+/// formed, or there is no memory to read them, the status is 2, and nothing is written to `output`.
 #[inline(never)]
-pub fn list_all<S: System, R, W: Output + Drop, E: Output>(
+pub fn list_all<S: System, R: Source, W: Output + Drop, E: Output>(
     rt: &HostRuntime,
     system: &S,
     options: &Options<'_, '_>,
@@ -204,10 +206,10 @@ pub fn list_all<S: System, R, W: Output + Drop, E: Output>(
     errors: &mut E,
 ) -> Ended<R, W>
     ensures { IsRefusedFor E.step (IsCauseForFiles (S.facts system.now) options.now) input output
-        errors.old result.status result.input result.output errors.new
-        ⊎ IsListingRun W.step S.facts system.now (S.finds system.now) (S.opens system.now)
-        (S.identifies system.now) options.now input output errors.old result.status result.input
-        result.output }
+        errors.old result errors.new
+        ⊎ IsListingRun
+        (world_of S.System.own S.Open S.Folders S.File.Read R.Source W.Output E.Output)
+        system.now options.now input output errors.old result }
 {
     let (layout, mut choices) = match prepare_files(rt, system, options) {
         Ok(prepared) => prepared,

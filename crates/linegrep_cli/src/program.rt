@@ -9,6 +9,7 @@ ghost use Rattle.linegrep_cli.specs.ProgramRuns.{IsAnswered, IsOptionsRun, IsPar
 ghost use Rattle.linegrep_cli.specs.ProgramRuns.{IsProgramRun};
 ghost use Rattle.linegrep_cli.specs.ProgramRuns.{exclude_each_other};
 ghost use Rattle.linegrep_cli.specs.ProgramRuns.{kind_asked, searches_named_input, text_asked};
+ghost use Rattle.linegrep_cli.specs.Worlds.{world_of};
 ghost use Rattle.linegrep_cli.specs.WrittenRuns.{DoesAsAsked};
 ghost use Rattle.linegrep_options.specs.OptionUses.{places_of, values_of};
 ghost use Rattle.linegrep_options.specs.ParsedWords.{AreRead};
@@ -66,8 +67,9 @@ pub struct Streams {
 ///
 /// If the status isn't 2, and `output` says which bytes it holds, it has taken exactly what the
 /// arguments ask for, unless nobody reads it any more: help, the version, a generated text or the
-/// list of types; or else the texts of the searches, one after the other, and then the totals of
-/// `--stats` or `--json`. Of runs with `--files` or `-q` less is promised.
+/// list of types; the paths of the files that are listed; or else the texts of the searches, one
+/// after the other, and then the totals of `--stats` or `--json`. Of runs with `-q` less is
+/// promised.
 pub fn run<S: System, R: Source + Drop, W: Output + Drop, E: Output>(
     rt: &HostRuntime,
     system: &S,
@@ -77,15 +79,12 @@ pub fn run<S: System, R: Source + Drop, W: Output + Drop, E: Output>(
     output: W,
     errors: &mut E,
 ) -> Ended<R, W>
-    ensures run { IsProgramRun ⟦<AllocError as Display>⟧.output W.step E.step S.File.remaining
-        R.remaining
-        R.step S.facts system.now (S.finds system.now) (S.opens system.now)
-        (S.identifies system.now) arguments.now streams input output errors.old result.status
-        result.input result.output errors.new }
-    ensures written { DoesAsAsked W.contents S.File.remaining R.remaining R.step
-        (S.facts system.now) (S.finds system.now) (S.opens system.now) (S.identifies system.now)
-        W.step E.step arguments.now streams input output errors.old result.status result.input
-        result.output }
+    ensures run { IsProgramRun ⟦<AllocError as Display>⟧.output
+        (world_of S.System.own S.Open S.Folders S.File.Read R.Source W.Output E.Output)
+        system.now arguments.now streams input output errors.old result errors.new }
+    ensures written { DoesAsAsked
+        (world_of S.System.own S.Open S.Folders S.File.Read R.Source W.Output E.Output)
+        system.now arguments.now streams input output errors.old result }
 {
     run_arguments(rt, system, streams, arguments, input, output, errors)
 }
@@ -100,11 +99,9 @@ fn run_arguments<S: System, R: Source + Drop, W: Output + Drop, E: Output>(
     output: W,
     errors: &mut E,
 ) -> Ended<R, W>
-    ensures { IsProgramRun ⟦<AllocError as Display>⟧.output W.step E.step S.File.remaining
-        R.remaining
-        R.step S.facts system.now (S.finds system.now) (S.opens system.now)
-        (S.identifies system.now) arguments.now streams input output errors.old result.status
-        result.input result.output errors.new }
+    ensures { IsProgramRun ⟦<AllocError as Display>⟧.output
+        (world_of S.System.own S.Open S.Folders S.File.Read R.Source W.Output E.Output)
+        system.now arguments.now streams input output errors.old result errors.new }
 {
     match parse(rt.alloc(), arguments) {
         Ok(parsed) => run_command(
@@ -132,11 +129,9 @@ fn run_command<S: System, R: Source + Drop, W: Output + Drop, E: Output>(
     errors: &mut E,
 ) -> Ended<R, W>
     requires { AreRead arguments.now parsed.now }
-    ensures { IsProgramRun ⟦<AllocError as Display>⟧.output W.step E.step S.File.remaining
-        R.remaining
-        R.step S.facts system.now (S.finds system.now) (S.opens system.now)
-        (S.identifies system.now) arguments.now streams input output errors.old result.status
-        result.input result.output errors.new }
+    ensures { IsProgramRun ⟦<AllocError as Display>⟧.output
+        (world_of S.System.own S.Open S.Folders S.File.Read R.Source W.Output E.Output)
+        system.now arguments.now streams input output errors.old result errors.new }
 {
     if skips_config(&parsed.uses) {
         return run_parsed(rt, system, streams, parsed, input, output, errors);
@@ -167,11 +162,9 @@ fn run_with_file<S: System, R: Source + Drop, W: Output + Drop, E: Output>(
 ) -> Ended<R, W>
     requires command { SeeksConfig arguments.now }
     requires file { IsConfig (S.facts system.now) (Config.Present file.now) }
-    ensures { IsProgramRun ⟦<AllocError as Display>⟧.output W.step E.step S.File.remaining
-        R.remaining
-        R.step S.facts system.now (S.finds system.now) (S.opens system.now)
-        (S.identifies system.now) arguments.now streams input output errors.old result.status
-        result.input result.output errors.new }
+    ensures { IsProgramRun ⟦<AllocError as Display>⟧.output
+        (world_of S.System.own S.Open S.Folders S.File.Read R.Source W.Output E.Output)
+        system.now arguments.now streams input output errors.old result errors.new }
 {
     let Ok(words) = all_words(rt.alloc(), &file.contents, arguments) else {
         return Ended::refused(errors, &Failure::out_of_memory(), input, output);
@@ -202,11 +195,9 @@ fn run_parsed<S: System, R: Source + Drop, W: Output + Drop, E: Output>(
     output: W,
     errors: &mut E,
 ) -> Ended<R, W>
-    ensures { IsParsedRun ⟦<AllocError as Display>⟧.output W.step E.step S.File.remaining
-        R.remaining
-        R.step S.facts system.now (S.finds system.now) (S.opens system.now)
-        (S.identifies system.now) parsed.now streams input output errors.old result.status
-        result.input result.output errors.new }
+    ensures { IsParsedRun ⟦<AllocError as Display>⟧.output
+        (world_of S.System.own S.Open S.Folders S.File.Read R.Source W.Output E.Output)
+        system.now parsed.now streams input output errors.old result errors.new }
 {
     let Ok(operands) = texts(rt.alloc(), &parsed.operands) else {
         return Ended::refused(errors, &Failure::out_of_memory(), input, output);
@@ -228,8 +219,7 @@ fn write_answer<R, W: Output, E: Output>(
     mut output: W,
     errors: &mut E,
 ) -> Ended<R, W>
-    ensures input { result.input ≡ input }
-    ensures answered { IsAnswered W.step text.now output result.status result.output }
+    ensures { IsAnswered W.step text.now input output result }
 {
     match write_whole(&mut output, text) {
         Err(error) if error.kind() != io::ErrorKind::BrokenPipe => {
@@ -263,11 +253,9 @@ fn run_options<S: System, R: Source + Drop, W: Output + Drop, E: Output>(
     requires unrestricted { lists.now.unrestricted.items
         ≡ places_of OptionId.Unrestricted 1 options.now.uses.now }
     requires files { lists.now.pattern_files.items ≡ values_of OptionId.File options.now.uses.now }
-    ensures { IsOptionsRun ⟦<AllocError as Display>⟧.output W.step E.step S.File.remaining
-        R.remaining
-        R.step S.facts system.now (S.finds system.now) (S.opens system.now)
-        (S.identifies system.now) options.now input output errors.old result.status result.input
-        result.output errors.new }
+    ensures { IsOptionsRun ⟦<AllocError as Display>⟧.output
+        (world_of S.System.own S.Open S.Folders S.File.Read R.Source W.Output E.Output)
+        system.now options.now input output errors.old result errors.new }
 {
     let Ok(asked) = text_asked(rt.alloc(), options) else {
         return Ended::refused(errors, &Failure::out_of_memory(), input, output);
@@ -292,11 +280,9 @@ fn run_unanswered<S: System, R: Source + Drop, W: Output + Drop, E: Output>(
     requires unrestricted { lists.now.unrestricted.items
         ≡ places_of OptionId.Unrestricted 1 options.now.uses.now }
     requires files { lists.now.pattern_files.items ≡ values_of OptionId.File options.now.uses.now }
-    ensures { IsOptionsRun ⟦<AllocError as Display>⟧.output W.step E.step S.File.remaining
-        R.remaining
-        R.step S.facts system.now (S.finds system.now) (S.opens system.now)
-        (S.identifies system.now) options.now input output errors.old result.status result.input
-        result.output errors.new }
+    ensures { IsOptionsRun ⟦<AllocError as Display>⟧.output
+        (world_of S.System.own S.Open S.Folders S.File.Read R.Source W.Output E.Output)
+        system.now options.now input output errors.old result errors.new }
 {
     if options.has(OptionId::TypeList) {
         return match type_list(rt.alloc(), &options.types) {

@@ -1,18 +1,18 @@
 //! The search of all that the arguments name.
-ghost use Rattle.std.specs.Prelude.{◌≡◌, ◌⊎◌, List, Option, String, true, IfErr, IfOk};
+ghost use Rattle.std.specs.Prelude.{◌≡◌, ◌⊎◌, Option, true, IfErr, IfOk};
 ghost use Rattle.std.specs.Borrow.{Bor};
-ghost use Rattle.std.specs.Global.{Global};
 ghost use Rattle.std.specs.Option.{option_copied};
 ghost use Rattle.grep_replace.specs.declared.template.Template.{Template};
 ghost use Rattle.grep_regex.specs.Sizes.{AreSized};
 ghost use Rattle.grep_regex.specs.Views.{IsNamed, regex_options, regex_patterns, regex_programs};
 ghost use Rattle.linegrep_cli.specs.PatternOptions.{pattern_options, pattern_texts};
 ghost use Rattle.linegrep_cli.specs.PreparedRuns.{IsPrepared};
-ghost use Rattle.linegrep_cli.specs.Refusals.{ArePatternsRefused, IsCause, IsRefusedFor, IsSaid};
+ghost use Rattle.linegrep_cli.specs.Refusals.{ArePatternsRefused, IsCause, IsRefusedFor};
+ghost use Rattle.linegrep_cli.specs.Refusals.{IsRefusedWith, IsRefusedWithoutMemory};
 ghost use Rattle.linegrep_cli.specs.TemplateOptions.{IsTemplate};
-ghost use Rattle.linegrep_cli.specs.WholeRuns.{IsRunFor, IsRunWith, IsWholeRun};
-ghost use Rattle.linegrep_cli.specs.WholeRuns.{literal_facts, literal_first_at, literal_groups_at};
-ghost use Rattle.linegrep_files.specs.Failures.{has_cause, text_of};
+ghost use Rattle.linegrep_cli.specs.WholeRuns.{IsRunOf, IsRunWith, IsWholeRun};
+ghost use Rattle.linegrep_cli.specs.Worlds.{world_of};
+ghost use Rattle.linegrep_files.specs.Failures.{has_cause};
 
 use crate::engine::PrintingEngine;
 use crate::failures::{Failure, say};
@@ -47,10 +47,7 @@ pub struct Ended<R, W> {
 impl<R, W> Ended<R, W> {
     /// A run that is refused. The failure is written to `errors`.
     pub fn refused<E: Output>(errors: &mut E, failure: &Failure, input: R, output: W) -> Ended<R, W>
-        ensures status { result.status ≡ 2 }
-        ensures input { result.input ≡ input }
-        ensures output { result.output ≡ output }
-        ensures said { IsSaid E.step (text_of failure.now) errors.old errors.new }
+        ensures { IsRefusedWith E.step failure.now input output errors.old result errors.new }
     {
         say(errors, failure.text());
         Ended {
@@ -173,11 +170,10 @@ pub fn search_all<S: System, R: Source + Drop, W: Output + Drop, E: Output>(
     errors: &mut E,
 ) -> Ended<R, W>
     ensures { IsRefusedFor E.step (IsCause (S.facts system.now) options.now patterns.now) input
-        output errors.old result.status result.input result.output errors.new
-        ⊎ IsWholeRun ⟦<AllocError as Display>⟧.output W.step S.File.remaining R.remaining R.step
-        S.facts system.now (S.finds system.now) (S.opens system.now) (S.identifies system.now)
-        options.now patterns.now input output errors.old result.status result.input
-        result.output }
+        output errors.old result errors.new
+        ⊎ IsWholeRun ⟦<AllocError as Display>⟧.output
+        (world_of S.System.own S.Open S.Folders S.File.Read R.Source W.Output E.Output)
+        system.now options.now patterns.now input output errors.old result }
 {
     match prepare(rt, system, options, patterns) {
         Ok((regex, prepared)) => search_named::<Brand, S, R, W, E>(
@@ -204,20 +200,10 @@ where
     requires named { IsNamed N.options N.patterns regex.now }
     requires prepared { IsPrepared (S.facts system.now) options.now prepared }
     requires template { IsTemplate options.now regex.now prepared.template }
-    ensures { ((patterns : List (String Global)) → IsRefusedFor E.step
-        (IsCause (S.facts system.now) options.now patterns) input output errors.old result.status
-        result.input result.output errors.new)
-        ⊎ (IsRunFor ⟦<AllocError as Display>⟧.output literal_facts literal_first_at
-        literal_groups_at W.step S.File.remaining R.remaining R.step S.facts system.now
-        (S.finds system.now) (S.opens system.now) (S.identifies system.now) options.now regex.now
-        input output errors.old result.status result.input result.output
-        ⊎ IsRunFor ⟦<AllocError as Display>⟧.output
-        ⟦<&'static NamedMatcher<'static, N> as Matcher>⟧.facts
-        ⟦<&'static NamedMatcher<'static, N> as FindAt>⟧.first_at
-        ⟦<&'static NamedMatcher<'static, N> as CapturesAt>⟧.groups_at W.step S.File.remaining
-        R.remaining R.step S.facts system.now (S.finds system.now) (S.opens system.now)
-        (S.identifies system.now) options.now regex.now input output errors.old result.status
-        result.input result.output) }
+    ensures { IsRefusedWithoutMemory E.step input output errors.old result errors.new
+        ⊎ IsRunOf ⟦<AllocError as Display>⟧.output
+        (world_of S.System.own S.Open S.Folders S.File.Read R.Source W.Output E.Output)
+        system.now N.Naming options.now regex.now input output errors.old result }
 {
     if prepared.template.is_none() {
         if let Some(matcher) = regex.literal_matcher() {
@@ -245,10 +231,9 @@ impl<'r> Prepared<'r> {
         requires { IsPrepared (S.facts system.now) options.now self }
         ensures { (template : Option (Bor Template))
             × (option_copied template ≡ self.entry.template)
-            × IsRunWith M.Error.output M.facts M.first_at M.groups_at W.step S.File.remaining
-            R.remaining R.step S.facts system.now (S.finds system.now) (S.opens system.now)
-            (S.identifies system.now) options.now matcher template input output errors.old
-            result.status result.input result.output }
+            × IsRunWith M.Error.output M.facts M.first_at M.groups_at
+            (world_of S.System.own S.Open S.Folders S.File.Read R.Source W.Output E.Output)
+            system.now options.now matcher template input output errors.old result }
     {
         let Prepared {
             searcher,

@@ -3,6 +3,6 @@ use Rattle.linegrep_cli.proofs.laws.first_lines_are_written.Goals as goal
 
 pub returns : goal.returns
 returns g c = λ regex. (
-  each-first _ _ _ _ _ _ _ _ _ _ _ regex,
-  each-first _ _ _ _ _ _ _ _ _ _ _ regex,
+  each-first _ _ _ _ regex,
+  each-first _ _ _ _ regex,
 )

@@ -6,13 +6,8 @@ use Rattle.linegrep_cli.proofs.listing.list_all.Goals as goal
 
 pub returns-in-Err : goal.returns-in-Err
 returns-in-Err g c = inl (record {
-  refused = record {
-    status_is = c.refused.ensures.status;
-    unread = c.refused.ensures.input;
-    unwritten = c.refused.ensures.output;
-  };
   failure = c.in-Err.failure;
-  said = c.refused.ensures.said;
+  refused = c.refused.ensures;
   caused = c.in-Err.ensures.refused;
 })
 
@@ -41,5 +36,5 @@ returns g c =
       };
       run = rw (c.new.ensures.system, c.new.ensures.scope, c.paths.ensures) at c.complete-status.ensures;
       unread = refl;
-      writer_after = c.into_writer.ensures;
+      output_after = c.into_writer.ensures;
     })

@@ -8,22 +8,7 @@ returns-in-Err-Words g c =
     let refused = rw c.in-Err-Words.field-0-is at c.in-Err-Words.ensures.refused in
     of_fault c.args.arguments.now c.args.errors.now (refusal c.in-Err-Words.fault) c.fault_failure-failure.result
     (of_refused_words (refusal c.in-Err-Words.fault) refused) refused
-    (record {
-      refused = record {
-        status_is = c.refused.ensures.status;
-        unread = c.refused.ensures.input;
-        unwritten = c.refused.ensures.output;
-      };
-      said = c.refused.ensures.said;
-    })
+    c.refused.ensures
 
 pub returns-in-Err-Memory : goal.returns-in-Err-Memory
-returns-in-Err-Memory g c = no_memory c.out_of_memory.result c.out_of_memory.ensures
-    (record {
-      refused = record {
-        status_is = c.refused-in-Err-Memory.ensures.status;
-        unread = c.refused-in-Err-Memory.ensures.input;
-        unwritten = c.refused-in-Err-Memory.ensures.output;
-      };
-      said = c.refused-in-Err-Memory.ensures.said;
-    })
+returns-in-Err-Memory g c = no_memory (c.out_of_memory.result, c.out_of_memory.ensures, c.refused-in-Err-Memory.ensures)

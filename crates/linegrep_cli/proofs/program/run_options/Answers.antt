@@ -9,15 +9,7 @@ pub returns-in-Some : goal.returns-in-Some
 returns-in-Some g c = of_text c.as_str.result.now
     (sym c.in-Ok.ensures ∙ ap (option_map (λ (text : String Global). string_bytes text)) c.in-Some.is
     ∙ ap Some (sym c.as_str.ensures.value))
-    c.write_answer.ensures.input c.write_answer.ensures.answered
+    c.write_answer.ensures
 
 pub returns-in_default : goal.returns-in_default
-returns-in_default g c = without_memory c.out_of_memory.result c.out_of_memory.ensures
-    (record {
-      refused = record {
-        status_is = c.refused.ensures.status;
-        unread = c.refused.ensures.input;
-        unwritten = c.refused.ensures.output;
-      };
-      said = c.refused.ensures.said;
-    })
+returns-in_default g c = without_memory (c.out_of_memory.result, c.out_of_memory.ensures, c.refused.ensures)

@@ -10,35 +10,21 @@ pub returns-in-Ok : goal.returns-in-Ok
 returns-in-Ok g c = of_types c.as_str.result.now
     c.requires.unanswered
     (sym c.has.ensures ∙ c.if-has.true) (rw c.as_str.ensures.value c.in-Ok.ensures.list)
-    c.write_answer.ensures.input c.write_answer.ensures.answered
+    c.write_answer.ensures
 
 pub returns-in-Err : goal.returns-in-Err
 returns-in-Err g c =
     of_refusal c.args.input c.in-Err.failure
     c.requires.unanswered
     (λ caused. of_definition (sym c.has.ensures ∙ c.if-has.true) (c.in-Err.ensures.malformed caused))
-    (record {
-      refused = record {
-        status_is = c.refused.ensures.status;
-        unread = c.refused.ensures.input;
-        unwritten = c.refused.ensures.output;
-      };
-      said = c.refused.ensures.said;
-    })
+    c.refused.ensures
 
 pub returns-in-Some : goal.returns-in-Some
 returns-in-Some g c =
     of_refusal c.args.input c.arguments_failure.result
     c.requires.unanswered
     (λ caused. of_contraries (sym c.fault_of.ensures ∙ ap is_some c.in-Some.is))
-    (record {
-      refused = record {
-        status_is = c.refused-in-Some.ensures.status;
-        unread = c.refused-in-Some.ensures.input;
-        unwritten = c.refused-in-Some.ensures.output;
-      };
-      said = c.refused-in-Some.ensures.said;
-    })
+    c.refused-in-Some.ensures
 
 pub returns-then-has-2 : goal.returns-then-has-2
 returns-then-has-2 g c = of_listing c.requires.unanswered
@@ -60,11 +46,4 @@ returns-in-Err-read_patterns g c =
     of_refusal c.read_patterns.new.input c.in-Err-read_patterns.failure
     c.requires.unanswered
     (λ caused. of_patterns (sym c.has-2.ensures ∙ c.if-has-2.false) (c.in-Err-read_patterns.ensures.refused caused))
-    (record {
-      refused = record {
-        status_is = c.refused-in-Err-read_patterns.ensures.status;
-        unread = c.refused-in-Err-read_patterns.ensures.input;
-        unwritten = c.refused-in-Err-read_patterns.ensures.output;
-      };
-      said = c.refused-in-Err-read_patterns.ensures.said;
-    })
+    c.refused-in-Err-read_patterns.ensures

@@ -1,9 +1,13 @@
-use Rattle.std.proofs.Common.{inl, inr}
+use Rattle.std.proofs.Common.{◌∙◌, inl, inr, sym, true≢false}
 use Rattle.linegrep_cli.proofs.search.search_all.Goals as goal
 
 pub returns-in-Ok : goal.returns-in-Ok
 returns-in-Ok g c = elim c.search_named.ensures [
-  | inl refused ↦ inl (refused c.args.patterns.now)
+  | inl (failure, uncaused, refused) ↦ inl (record {
+    failure = failure;
+    refused = refused;
+    caused = λ is. absurd (true≢false (sym is ∙ uncaused));
+  })
   | inr run ↦ inr (record {
     regex = c.in-Ok.regex;
     has_options = c.in-Ok.ensures.options;
@@ -15,12 +19,7 @@ returns-in-Ok g c = elim c.search_named.ensures [
 
 pub returns-in-Err : goal.returns-in-Err
 returns-in-Err g c = inl (record {
-  refused = record {
-    status_is = c.refused.ensures.status;
-    unread = c.refused.ensures.input;
-    unwritten = c.refused.ensures.output;
-  };
   failure = c.in-Err.failure;
-  said = c.refused.ensures.said;
+  refused = c.refused.ensures;
   caused = c.in-Err.ensures.refused;
 })

@@ -51,6 +51,6 @@ returns g c =
         };
         run = rw (c.new-run.ensures.system, c.new-run.ensures.scope, c.paths.ensures) at c.complete-status.ensures;
         input_after = c.into_parts-input.ensures.input;
-        writer_after = c.into_parts-input.ensures.writer;
+        output_after = c.into_parts-input.ensures.writer;
       },
     )
