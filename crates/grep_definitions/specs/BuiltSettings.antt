@@ -1,7 +1,9 @@
 -- The settings of a builder, and those of a searcher that it builds.
 use Rattle.std.specs.Prelude.{true, false, None, if◌then◌else◌}
 use Rattle.grep_matcher.specs.declared.line_terminator.LineTerminator.TheVariants.{Byte}
-use Rattle.grep_report.specs.declared.binary_detection.BinaryDetection.TheVariants.{None as no_detection}
+use Rattle.grep_report.specs.declared.binary_detection.BinaryDetection.TheVariants.{
+  None as no_detection,
+}
 use Rattle.grep_report.specs.declared.mmap_choice.MmapChoice.TheVariants.{Never}
 use Rattle.grep_definitions.specs.Plans.{Settings}
 

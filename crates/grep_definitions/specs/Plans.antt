@@ -14,8 +14,10 @@ use Rattle.grep_matcher.specs.Lines.{byte_of, line_start, lines, strip}
 use Rattle.grep_matcher.specs.Meanings.{ExcludesTerminator, MatcherFacts, Meaning}
 use Rattle.grep_report.specs.declared.binary_detection.BinaryDetection.{BinaryDetection}
 use Rattle.grep_report.specs.declared.config_error.ConfigError.{ConfigError}
-use Rattle.grep_report.specs.declared.config_error.ConfigError.TheVariants.{SearchUnavailable}
-use Rattle.grep_report.specs.declared.config_error.ConfigError.TheVariants.{MismatchedLineTerminators}
+use Rattle.grep_report.specs.declared.config_error.ConfigError.TheVariants.{
+  SearchUnavailable,
+  MismatchedLineTerminators,
+}
 use Rattle.grep_report.specs.declared.mmap_choice.MmapChoice.{MmapChoice}
 use Rattle.grep_report.specs.SinkReports.{Surroundings, no_surroundings, surroundings}
 use Rattle.grep_report.specs.declared.sink_context.SinkContextKind.{SinkContextKind}

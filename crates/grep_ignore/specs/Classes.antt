@@ -1,6 +1,6 @@
 -- What a class of a glob, a text in brackets, stands for.
-use Rattle.std.specs.Prelude.{◌≡◌, ◌≢◌, ℕ, ◌<◌, ◌+◌, ◌-◌, Bool, true, false, not, if◌then◌else◌, ◌⊎◌}
-use Rattle.std.specs.Prelude.{◌&&◌, ◌||◌, ◌==◌, nat_lt, nat_le, List, [], ◌∷◌, length, drop}
+use Rattle.std.specs.Prelude.{◌≡◌, ◌≢◌, ℕ, ◌<◌, ◌+◌, ◌-◌, Bool, true, false, not, if◌then◌else◌}
+use Rattle.std.specs.Prelude.{◌⊎◌, ◌&&◌, ◌||◌, ◌==◌, nat_lt, nat_le, List, [], ◌∷◌, length, drop}
 use Rattle.std.specs.List.{list_any}
 use Rattle.grep_matcher.specs.ByteSets.{holds}
 
@@ -72,7 +72,8 @@ AreMembers [] text rest = text ≡ rest
 AreMembers (range ∷ before) text rest = (mid : List ℕ) × AreMembers before text mid
     × ((before ≡ []) ⊎ (begins_with 93 mid ≡ false)) × IsMember range mid rest
 
--- a class that begins with an exclamation mark or a caret is about the bytes that aren't its members
+-- a class that begins with an exclamation mark or a caret is about the bytes
+-- that aren't its members
 abbrev pub is_negated : List ℕ → Bool
 is_negated text = begins_with 33 text || begins_with 94 text
 
@@ -82,15 +83,18 @@ members_of text = if is_negated text then drop 1 text else text
 -- a set gets the bytes of some ranges, and if case is ignored their letters in the other case
 abbrev pub AddsRanges : Bool → List (ℕ × ℕ) → List Bool → List Bool → Type 0
 AddsRanges ignores_case ranges old new = (byte : ℕ) → holds new byte
-    ≡ (holds old byte || is_either ignores_case (λ b. list_any (λ range. is_in_range range b) ranges) byte)
+    ≡ (holds old byte
+    || is_either ignores_case (λ b. list_any (λ range. is_in_range range b) ranges) byte)
 
 -- a byte that a class stands for, by its members: never a slash
 abbrev pub is_in_class : Bool → Bool → List (ℕ × ℕ) → ℕ → Bool
 is_in_class ignores_case negates ranges byte =
-    let is_member = is_either ignores_case (λ b. list_any (λ range. is_in_range range b) ranges) byte in
+    let is_member =
+    is_either ignores_case (λ b. list_any (λ range. is_in_range range b) ranges) byte in
     is_name_byte byte && (if negates then not is_member else is_member)
 
--- a class, after its opening bracket, up to the closing one: the set of the bytes that it stands for
+-- a class, after its opening bracket, up to the closing one: the set of the bytes
+-- that it stands for
 abbrev pub IsClass : Bool → List Bool → List ℕ → List ℕ → Type 0
 IsClass ignores_case set text rest = (ranges : List (ℕ × ℕ)) × (0 < length ranges)
     × AreMembers ranges (members_of text) (93 ∷ rest)

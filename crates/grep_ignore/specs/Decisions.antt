@@ -33,8 +33,8 @@ IsDecided rules path is_folder decision =
     × IsAbout path is_folder rule × (decision ≡ decision_of rule)
     × NoneFrom (last + 1) rules path is_folder)
 
--- what is at a path is left out if the rules leave it out, or a folder on the way to it: nothing below
--- such a folder comes back
+-- what is at a path is left out if the rules leave it out, or a folder on the way to it: nothing
+-- below such a folder comes back
 abbrev pub IsLeftOut : List Rule → List ℕ → Bool → Type 0
 IsLeftOut rules path is_folder = IsDecided rules path is_folder Ignored
     ⊎ ((folder : List ℕ) × (rest : List ℕ) × (path ≡ folder ++ 47 ∷ rest)

@@ -1,5 +1,5 @@
--- Values that are about paths, each of which has a text that those paths end in, or that a name of them
--- begins with. The texts are compared by numbers, the same for the same text.
+-- Values that are about paths, each of which has a text that those paths end in, or that a name of
+-- them begins with. The texts are compared by numbers, the same for the same text.
 use Rattle.std.specs.Prelude.{◌≡◌, ◌≢◌, ◌⊎◌, ℕ, ◌+◌, ◌-◌, ◌*◌, ◌%◌, ◌^◌, ◌<◌, ◌≤◌, ◌==◌, ◌||◌, ◌++◌}
 use Rattle.std.specs.Prelude.{Bool, true, false, List, [], ◌∷◌, drop, length, slice_index}
 use Rattle.std.specs.Prelude.{slice_index_or, take, None, Option, Some}
@@ -81,12 +81,12 @@ module _ {T : Type 0} (about : T → List ℕ → Bool → Type 0) (items : List
         → slice_index numbers k ≡ number → about (slice_index_or items k item) path is_folder → ⊥
 
     -- how many there are up to the last with a number that is about it, if there are more than some
-    pub record IsCountWith (number least : ℕ) (path : List ℕ) (is_folder : Bool) (count : ℕ) : Type 0
-      where
-        pub least_is : least ≤ count
-        pub within : count ≤ length items
-        pub none : NoneWith count number path is_folder
-        pub last : least < count → (item : T) × IsAboutAt count path is_folder item
+    pub record IsCountWith (number least : ℕ) (path : List ℕ) (is_folder : Bool) (count : ℕ) :
+        Type 0 where
+      pub least_is : least ≤ count
+      pub within : count ≤ length items
+      pub none : NoneWith count number path is_folder
+      pub last : least < count → (item : T) × IsAboutAt count path is_folder item
 
     -- how many there are up to the last that is about it, by the numbers of its ends
     pub record IsCountByEnds (longest : ℕ) (path : List ℕ) (is_folder : Bool) (count : ℕ) : Type 0
@@ -97,8 +97,8 @@ module _ {T : Type 0} (about : T → List ℕ → Bool → Type 0) (items : List
         pub last : 0 < count → (item : T) × IsAboutAt count path is_folder item
 
     -- by the numbers of texts where a name begins
-    pub record IsCountFrom (longest : ℕ) (path : List ℕ) (is_folder : Bool) (start least count : ℕ) :
-        Type 0 where
+    pub record IsCountFrom (longest : ℕ) (path : List ℕ) (is_folder : Bool)
+        (start least count : ℕ) : Type 0 where
       pub least_is : least ≤ count
       pub within : count ≤ length items
       pub none : (stop : ℕ) → start < stop → stop ≤ length path → stop - start ≤ longest

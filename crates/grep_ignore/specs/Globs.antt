@@ -26,16 +26,17 @@ HasStars more glob rest =
 abbrev pub is_name : Bool → ℕ → List ℕ → Bool
 is_name begins more rest = begins && nat_lt 0 more && (is_empty rest || begins_with 47 rest)
 
--- A glob begins with the text of a piece, and goes on with a rest. `begins` says whether a name begins
--- where the glob does, and `next` whether one begins where the rest does: after a slash. Stars that are
--- a whole name stand for any folders, or at the end for everything; others, and a question mark, stand
--- for bytes of a name.
+-- A glob begins with the text of a piece, and goes on with a rest. `begins` says whether a name
+-- begins where the glob does, and `next` whether one begins where the rest does: after a slash.
+-- Stars that are a whole name stand for any folders, or at the end for everything; others, and a
+-- question mark, stand for bytes of a name.
 abbrev pub IsPieceText : Bool → Bool → List ℕ → Piece → Bool → List ℕ → Type 0
 IsPieceText ignores_case begins glob (One set) next rest =
     ((glob ≡ 63 ∷ rest) × (next ≡ false) × IsSet set is_name_byte)
     ⊎ ((byte : ℕ) × IsPlain byte glob rest × (next ≡ (byte == 47))
     × IsSet set (is_either ignores_case (λ b. b == byte)))
-    ⊎ ((class : List ℕ) × (glob ≡ 91 ∷ class) × (next ≡ false) × IsClass ignores_case set class rest)
+    ⊎ ((class : List ℕ) × (glob ≡ 91 ∷ class) × (next ≡ false)
+    × IsClass ignores_case set class rest)
 IsPieceText ignores_case begins glob (Many set) next rest =
     (more : ℕ) × HasStars more glob rest × (next ≡ false)
     × (((is_name begins more rest ≡ false) × IsSet set is_name_byte)

@@ -5,8 +5,8 @@ use Rattle.grep_ignore.specs.Decisions.{IsDecided, IsLastRule}
 use Rattle.grep_ignore.specs.declared.layers.Decider.{Decider}
 use Rattle.grep_ignore.specs.declared.layers.Layer.{Layer}
 use Rattle.grep_ignore.specs.declared.layers.Origin.{Origin}
-use Rattle.grep_ignore.specs.declared.layers.Origin.TheVariants.{RgIgnore, Ignore, GitIgnore, GitExclude}
-use Rattle.grep_ignore.specs.declared.layers.Origin.TheVariants.{GitGlobal, Named}
+use Rattle.grep_ignore.specs.declared.layers.Origin.TheVariants.{RgIgnore, Ignore, GitIgnore}
+use Rattle.grep_ignore.specs.declared.layers.Origin.TheVariants.{GitExclude, GitGlobal, Named}
 use Rattle.grep_ignore.specs.declared.rules.Decision.{Decision}
 use Rattle.grep_ignore.specs.declared.rules.Decision.TheVariants.{Unmatched}
 use Rattle.grep_ignore.specs.declared.rules.Rule.{Rule}
@@ -33,8 +33,8 @@ counts_from (Some top) GitExclude depth = nat_le top depth
 counts_from (Some top) GitGlobal depth = true
 counts_from repository Named depth = true
 
--- where the path begins that rules are about: in the folder of their file, or for those that belong to
--- no folder where the program runs
+-- where the path begins that rules are about: in the folder of their file, or for those that belong
+-- to no folder where the program runs
 abbrev pub start_of : ℕ → Layer → ℕ
 start_of start layer = if nat_le 4 (rank_of layer.origin) then start else layer.start
 

@@ -1,6 +1,7 @@
 -- The rules of the lines of an ignore file.
 use Rattle.std.specs.Prelude.{◌≡◌, ℕ, Bool, true, false, if◌then◌else◌, ◌⊎◌, ◌&&◌, ◌||◌, ◌==◌}
-use Rattle.std.specs.Prelude.{List, [], ◌∷◌, ◌++◌, drop, take, length, nat_lt, nat_eq, slice_index, ◌-◌, ◌+◌}
+use Rattle.std.specs.Prelude.{List, [], ◌∷◌, ◌++◌, drop, take, length}
+use Rattle.std.specs.Prelude.{nat_lt, nat_eq, slice_index, ◌-◌, ◌+◌}
 use Rattle.std.specs.List.{list_any, slice_split, starts_with}
 use Rattle.grep_ignore.specs.Classes.{begins_with, is_empty}
 use Rattle.grep_ignore.specs.Globs.{IsGlob, IsMalformed}
@@ -37,8 +38,8 @@ said line = without_spaces (if ends_with 13 line then without_last line else lin
 abbrev pub has_no_rule : List ℕ → Bool
 has_no_rule text = is_empty text || begins_with 35 text
 
--- an exclamation mark at the start makes a rule one that keeps, a slash at the end one about folders
--- alone; what is left is the glob
+-- an exclamation mark at the start makes a rule one that keeps, a slash at the end one about
+-- folders alone; what is left is the glob
 abbrev pub keeps_of : List ℕ → Bool
 keeps_of text = begins_with 33 text
 

@@ -6,8 +6,8 @@ use Rattle.grep_ignore.specs.Endings.{HasStart}
 use Rattle.grep_ignore.specs.declared.wildcards.Piece.{Piece}
 use Rattle.grep_ignore.specs.declared.wildcards.Piece.TheVariants.{One, Many, Folders}
 
--- a part of a path is what a piece stands for: one byte of its set, any number of them, or nothing or
--- bytes that end in a slash
+-- a part of a path is what a piece stands for: one byte of its set, any number of them, or nothing
+-- or bytes that end in a slash
 abbrev pub Fits : Piece → List ℕ → Type 0
 Fits (One set) part = (byte : ℕ) × (part ≡ byte ∷ []) × IsTrue (holds set byte)
 Fits (Many set) part = All (λ byte. IsTrue (holds set byte)) part

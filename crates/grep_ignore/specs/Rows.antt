@@ -37,7 +37,8 @@ abbrev pub decides : List Piece → List ℕ → Bool
 decides [] path = at_end path
 decides (piece ∷ later) path = step piece (decides later) path
 
--- a row has for each position of a path, and for its end, what a test says of the bytes from there on
+-- a row has for each position of a path, and for its end, what a test says of the bytes
+-- from there on
 abbrev pub IsRow : (List ℕ → Bool) → List ℕ → List Bool → Type 0
 IsRow f path row = (length row ≡ length path + 1)
     × ((k : ℕ) → k ≤ length path → slice_index_or row k false ≡ f (drop k path))

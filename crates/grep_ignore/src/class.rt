@@ -1,10 +1,12 @@
 //! A class of a glob, which is in brackets: the bytes that it stands for.
 ghost use Rattle.std.specs.Prelude.{◌≡◌, ℕ, ◌<◌, ◌&&◌, ◌||◌, not, if◌then◌else◌, nat_lt};
-ghost use Rattle.std.specs.Prelude.{List, ◌∷◌, [], ◌⊎◌, ◌==◌, true, false, MatchOption, length, drop};
+ghost use Rattle.std.specs.Prelude.{List, ◌∷◌, [], ◌⊎◌, ◌==◌};
+ghost use Rattle.std.specs.Prelude.{true, false, MatchOption, length, drop};
 ghost use Rattle.grep_matcher.specs.ByteSets.{holds};
 ghost use Rattle.grep_ignore.specs.Classes.{AreMembers, IsClass, IsCut, IsCutMember, IsLetter};
 ghost use Rattle.grep_ignore.specs.Classes.{IsMember, IsUnclosed, AddsRanges, begins_range};
-ghost use Rattle.grep_ignore.specs.Classes.{begins_with, is_between, is_either, is_in_range, is_in_class};
+ghost use Rattle.grep_ignore.specs.Classes.{begins_with, is_between, is_either};
+ghost use Rattle.grep_ignore.specs.Classes.{is_in_range, is_in_class};
 ghost use Rattle.grep_ignore.specs.Classes.{is_name_byte, is_negated, members_of, other_case};
 
 use grep_matcher::ByteSet;
@@ -96,7 +98,8 @@ fn add_if(set: &mut ByteSet, byte: u8, is_chosen: bool)
     }
 }
 
-// Adds the members of a class to a set, and gives what follows its closing bracket, if there is one.
+// Adds the members of a class to a set, and gives what follows its closing bracket,
+// if there is one.
 fn read_members<'t>(set: &mut ByteSet, text: &'t [u8], ignores_case: bool) -> Option<&'t [u8]>
     ensures { MatchOption result
         ((ranges : List (ℕ × ℕ)) × (rest : List ℕ)
@@ -197,8 +200,8 @@ fn escaped(text: &[u8]) -> Option<(u8, &[u8])>
     }
 }
 
-/// Adds the bytes of a range to a set, and their letters in the other case if `ignores_case` is set.
-/// Its first byte is always one of them.
+/// Adds the bytes of a range to a set, and their letters in the other case if `ignores_case` is
+/// set. Its first byte is always one of them.
 pub fn add_range(set: &mut ByteSet, first: u8, last: u8, ignores_case: bool)
     ensures { (byte : ℕ) → holds set.new byte
         ≡ (holds set.old byte || is_either ignores_case (is_in_range (first, last)) byte) }

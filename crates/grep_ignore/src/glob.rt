@@ -34,8 +34,8 @@ pub struct Step<'g> {
     pub begins_name: bool,
 }
 
-/// Adds the pieces of a glob but for the bytes at its end that are returned, each of which is meant as
-/// itself.
+/// Adds the pieces of a glob but for the bytes at its end that are returned,
+/// each of which is meant as itself.
 pub fn add_pieces(
     alloc: Global,
     pieces: &mut Vec<Piece>,
@@ -83,8 +83,8 @@ pub fn tail_len(glob: &[u8], ignores_case: bool) -> usize
     glob.len() - start
 }
 
-/// The bytes at the start of a glob that are meant as themselves, or none if case is ignored or there
-/// are such at its end.
+/// The bytes at the start of a glob that are meant as themselves, or none if case is ignored or
+/// there are such at its end.
 pub fn head_of(
     alloc: Global,
     glob: &[u8],
@@ -173,7 +173,8 @@ pub fn read_piece(
     }
 }
 
-// What comes after the first of some stars: where they are a whole name, any folders, or everything.
+// What comes after the first of some stars: where they are a whole name, any folders,
+// or everything.
 fn stars_step(after: &[u8], begins_name: bool) -> Step<'_>
     ensures { (ignores_case : Bool) → IsPieceText ignores_case begins_name (42 ∷ after.now)
         result.piece result.begins_name result.rest.now }

@@ -101,7 +101,8 @@ impl Layers {
         }
     }
 
-    /// Removes the rules of the files of folders that are in as many folders as `depth`, or in more.
+    /// Removes the rules of the files of folders that are in as many folders as `depth`,
+    /// or in more.
     pub fn leave(&mut self, depth: usize)
         ensures { self.new ≡ filter (λ layer. nat_lt layer.depth depth) self.old }
     {
@@ -111,7 +112,8 @@ impl Layers {
     /// The rule that decides of the file or the folder at a path, if there is one: in the first
     /// layer with a rule about it, the last such rule. `start` is how many bytes of the path are
     /// before what is where the program runs. `repository` is the depth of the repository that the
-    /// path is in, if it is in one. `row` is room to work in. An error is one of being out of memory.
+    /// path is in, if it is in one. `row` is room to work in.
+    /// An error is one of being out of memory.
     pub fn decider(
         &self,
         row: &mut Vec<bool>,
@@ -225,7 +227,8 @@ impl Origin {
         }
     }
 
-    // Whether rules of a folder's depth count in a repository of a depth, or outside of repositories.
+    // Whether rules of a folder's depth count in a repository of a depth,
+    // or outside of repositories.
     fn counts(self, repository: Option<usize>, depth: usize) -> bool
         ensures { result ≡ counts_from repository self depth }
     {

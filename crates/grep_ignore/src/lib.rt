@@ -1,5 +1,6 @@
-//! Which paths the lines of ignore files leave out, by the rules of gitignore(5): the wildcards of a
-//! glob, a rule, which is a line, and the rules of a file, of which the last that matches decides.
+//! Which paths the lines of ignore files leave out, by the rules of gitignore(5): the wildcards of
+//! a glob, a rule, which is a line, and the rules of a file, of which the last
+//! that matches decides.
 #![tactic(auto)]
 
 mod class;

@@ -94,8 +94,8 @@ fn is_escape(text: &[u8], at: usize) -> bool
     text[at] == b'\\' && text.len() - at > 1
 }
 
-// Where a text ends without the spaces after a byte at a position, if it ends there: after the byte,
-// or if that is a space where it ended before.
+// Where a text ends without the spaces after a byte at a position, if it ends there: after the
+// byte, or if that is a space where it ended before.
 fn end_after(byte: u8, at: usize, end: usize) -> usize
     requires { at + 1 < 2 ^ 64 }
     ensures { result ≡ (if byte == 32 then end else at + 1) }

@@ -146,8 +146,8 @@ fn bits_of(size: usize, number: u64) -> usize
     number as usize & (size - 1)
 }
 
-// How many of some first numbers there are up to the last that is a number, or none. The last of them
-// has its low bits.
+// How many of some first numbers there are up to the last that is a number, or none. The last of
+// them has its low bits.
 fn skip(numbers: &[u64], before: &[usize], last: &[usize], count: usize, number: u64) -> usize
     requires chain { IsChain numbers.now before.now last.now }
     requires within { count ≤ length numbers.now }

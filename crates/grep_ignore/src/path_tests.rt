@@ -1,5 +1,5 @@
-//! Values that are about paths, of which the last that is about a path is found. Each has a text that
-//! those paths end in, or that a name of them begins with, so that most values aren't asked.
+//! Values that are about paths, of which the last that is about a path is found. Each has a text
+//! that those paths end in, or that a name of them begins with, so that most values aren't asked.
 ghost use Rattle.std.specs.Prelude.{◌≡◌, ◌↔◌, ◌++◌, ◌∷◌, [], ℕ, ◌<◌, ◌≤◌, Bool, List, OnErr, OnOk};
 ghost use Rattle.std.specs.Prelude.{IfOk, IsTrue, length};
 ghost use Rattle.std.specs.Option.{option_copied};
@@ -58,8 +58,8 @@ impl<T: PathTest> Model for PathTests<T> {
 
     ghost view = { λ tests. tests.items.items };
 
-    ghost invariant = { λ tests. AreNumbered T.about tests.items.items tests.numbers tests.has_starts
-        tests.longest };
+    ghost invariant = { λ tests. AreNumbered T.about tests.items.items tests.numbers
+        tests.has_starts tests.longest };
 }
 
 impl<T: PathTest> PathTests<T> {
@@ -147,8 +147,8 @@ impl<T: PathTest + Drop> PathTests<T> {
     }
 }
 
-// How many values there are up to the last that is about what is at a path, or none, by the numbers of
-// its ends.
+// How many values there are up to the last that is about what is at a path, or none, by the numbers
+// of its ends.
 fn count_by_ends<T: PathTest>(
     items: &[T],
     numbers: &Numbers,
@@ -246,7 +246,8 @@ fn count_with<T: PathTest>(
 ) -> Result<usize, AllocError>
     requires same { length numbers.now ≡ length items.now }
     requires least { least ≤ length items.now }
-    ensures { IfOk result (IsCountWith T.about items.now numbers.now number least path.now is_folder) }
+    ensures { IfOk result
+        (IsCountWith T.about items.now numbers.now number least path.now is_folder) }
 {
     let mut count = numbers.count_to(number);
     while count > least {

@@ -1,5 +1,5 @@
-//! Whether pieces match a path, from the last piece to the first. A row has for each position of the
-//! path, and for its end, whether what begins there matches the pieces that were looked at.
+//! Whether pieces match a path, from the last piece to the first. A row has for each position of
+//! the path, and for its end, whether what begins there matches the pieces that were looked at.
 ghost use Rattle.std.specs.Prelude.{◌≡◌, ℕ, ◌+◌, ◌<◌, ◌↔◌, IsTrue, Bool, false, List, length};
 ghost use Rattle.std.specs.Prelude.{◌&&◌, ◌||◌, ◌==◌};
 ghost use Rattle.grep_matcher.specs.ByteSets.{holds};

@@ -72,8 +72,8 @@ impl Rules {
         }
     }
 
-    /// Adds the rules of the lines of a file, and to `misread` the lines that aren't well formed, which
-    /// match nothing. An error is one of being out of memory.
+    /// Adds the rules of the lines of a file, and to `misread` the lines that aren't well formed,
+    /// which match nothing. An error is one of being out of memory.
     pub fn add_lines(
         &mut self,
         alloc: Global,
@@ -151,8 +151,8 @@ impl Rules {
     }
 
     /// The rule that decides of the file or the folder at a path, if there is one: the last that
-    /// matches it. The path begins in the folder that the rules are about. `row` is room to work in.
-    /// An error is one of being out of memory.
+    /// matches it. The path begins in the folder that the rules are about. `row` is room to work
+    /// in. An error is one of being out of memory.
     pub(crate) fn last_about(
         &self,
         row: &mut Vec<bool>,
@@ -166,8 +166,8 @@ impl Rules {
     }
 
     /// What the rules say of the file or the folder at a path, which begins in the folder that they
-    /// are about: the last that matches it decides. `row` is room to work in. An error is one of being
-    /// out of memory.
+    /// are about: the last that matches it decides. `row` is room to work in. An error is one of
+    /// being out of memory.
     pub fn decision(
         &self,
         row: &mut Vec<bool>,
@@ -182,8 +182,8 @@ impl Rules {
         }
     }
 
-    /// Whether the rules leave out what is at a path, or a folder on the way to it. `row` is room to
-    /// work in. An error is one of being out of memory.
+    /// Whether the rules leave out what is at a path, or a folder on the way to it. `row` is room
+    /// to work in. An error is one of being out of memory.
     pub fn leaves_out(
         &self,
         row: &mut Vec<bool>,

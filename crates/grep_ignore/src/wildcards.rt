@@ -1,5 +1,6 @@
 //! The wildcards of a glob, which match paths.
-ghost use Rattle.std.specs.Prelude.{◌≡◌, ◌↔◌, ◌++◌, ℕ, Bool, IfOk, IfSome, IsTrue, List, MatchOption};
+ghost use Rattle.std.specs.Prelude.{◌≡◌, ◌↔◌, ◌++◌, ℕ};
+ghost use Rattle.std.specs.Prelude.{Bool, IfOk, IfSome, IsTrue, List, MatchOption};
 ghost use Rattle.grep_matcher.specs.ByteSets.{holds};
 ghost use Rattle.grep_ignore.specs.Endings.{EndsIn, HasStart};
 ghost use Rattle.grep_ignore.specs.Matches.{AreStarted, Matches};
@@ -41,12 +42,13 @@ impl Model for Wildcards {
 
     ghost view = { λ w. w.pieces.items ++ byte_pieces w.tail.items };
 
-    ghost invariant = { λ w. AreStarted (w.pieces.items ++ byte_pieces w.tail.items) w.start.items };
+    ghost invariant = { λ w.
+        AreStarted (w.pieces.items ++ byte_pieces w.tail.items) w.start.items };
 }
 
 impl Wildcards {
-    /// The wildcards of some pieces, and of bytes after them that are meant as themselves. In any path
-    /// that matches a name begins with `start`.
+    /// The wildcards of some pieces, and of bytes after them that are meant as themselves. In any
+    /// path that matches a name begins with `start`.
     pub fn new(pieces: Vec<Piece>, tail: Vec<u8>, start: Vec<u8>) -> Wildcards
         requires { AreStarted (pieces.items ++ byte_pieces tail.items) start.items }
         ensures { result ≡ pieces.items ++ byte_pieces tail.items }
@@ -104,8 +106,9 @@ fn match_rest(pieces: &[Piece], row: &mut Vec<bool>, path: &[u8]) -> Result<bool
     Ok(match_pieces(pieces, path, row.as_mut_slice()))
 }
 
-// Pieces and a path without the last ones of the pieces that are one byte each and without the bytes at
-// the end of the path that they match. `None` means that one doesn't, so that the path doesn't match.
+// Pieces and a path without the last ones of the pieces that are one byte each and without the
+// bytes at the end of the path that they match. `None` means that one doesn't,
+// so that the path doesn't match.
 fn without_ends<'a>(pieces: &'a [Piece], path: &'a [u8]) -> Option<(&'a [Piece], &'a [u8])>
     ensures { MatchOption result (Matches pieces.now path.now → ⊥)
         (λ r. Matches pieces.now path.now ↔ Matches r.0.now r.1.now) }

@@ -1,6 +1,7 @@
 //! All decoded bytes of a reader, for a search across lines.
 ghost use Rattle.std.specs.Prelude.{◌≡◌, ◌≢◌, ◌+◌, ◌-◌, ◌<◌, ◌≤◌, ◌^◌, ◌++◌, [], Some, length};
-ghost use Rattle.std.specs.Prelude.{OnOk, OnErr, IfErr, if◌then◌else◌, nat_lt, replicate, take, vec_len, vec_capacity};
+ghost use Rattle.std.specs.Prelude.{OnOk, OnErr, IfErr, if◌then◌else◌};
+ghost use Rattle.std.specs.Prelude.{nat_lt, replicate, take, vec_len, vec_capacity};
 ghost use Rattle.std.specs.Io.KnownBytes.{Consumes, IsAtEnd};
 ghost use Rattle.grep_decode.specs.Reading.{FailsWith};
 ghost use Rattle.grep_decode.specs.declared.mode.Mode.TheVariants.{Passing};
@@ -30,8 +31,9 @@ const FIRST_ZEROS: usize = 4_096;
 /// The contents have to be shorter than `limit`, if there is one: once `limit` bytes have come, the
 /// error is `FillError::HeapLimit`, and nothing more is read. There is room for 65,536 bytes at
 /// first, and then for twice as many whenever it is used up, but never for more than the limit. Of
-/// that, as many bytes at a time are set to zero as have come, but 4,096 at least and 65,536 at most,
-/// and each read asks for what is left of these. Once a read has returned none, no other is made.
+/// that, as many bytes at a time are set to zero as have come, but 4,096 at least and 65,536 at
+/// most, and each read asks for what is left of these. Once a read has returned none,
+/// no other is made.
 ///
 /// `FillError::Read` is the reader's own error, also one of kind `Interrupted`, and `Memory` means
 /// that the room was used up, might grow, and there was no memory. `Offset` isn't returned. After

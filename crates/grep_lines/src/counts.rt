@@ -38,8 +38,8 @@ pub fn line_count(bytes: &[u8], terminator: u8) -> u64
 }
 
 /// How many lines there are from one position up to another, as if there were no other bytes. The
-/// caller ensures that the positions are in order and within the bytes. Of few bytes that come after
-/// others it is found by one comparison of vectors.
+/// caller ensures that the positions are in order and within the bytes. Of few bytes that come
+/// after others it is found by one comparison of vectors.
 #[inline(always)]
 pub fn line_count_in(bytes: &[u8], start: usize, end: usize, terminator: u8) -> u64
     requires ordered { start ≤ end }

@@ -1,5 +1,5 @@
-//! A search for a literal in fewer bytes than vectors of 32 bytes can be laid over, such as a line of
-//! few words: by vectors of 16 bytes, the last two of which may overlap.
+//! A search for a literal in fewer bytes than vectors of 32 bytes can be laid over, such as a line
+//! of few words: by vectors of 16 bytes, the last two of which may overlap.
 ghost use Rattle.std.specs.Prelude.{◌≡◌, ◌≤◌, ◌<◌, ◌+◌, ◌-◌, ◌==◌, ℕ, if◌then◌else◌, length};
 ghost use Rattle.std.specs.Prelude.{slice_index};
 ghost use Rattle.std.specs.Int.{bit_at};
@@ -13,8 +13,8 @@ use std::simd::prelude::*;
 // How many bytes a vector has.
 const HALF: usize = 16;
 
-/// The position of the first occurrence of the literal that a finder has from `start` on. The caller
-/// ensures that `start` is in the haystack, or at its end.
+/// The position of the first occurrence of the literal that a finder has from `start` on. The
+/// caller ensures that `start` is in the haystack, or at its end.
 #[inline(never)]
 pub(crate) fn find_few(finder: &Finder<'_>, haystack: &[u8], start: usize) -> Option<usize>
     requires { start ≤ length haystack.now }

@@ -106,8 +106,8 @@ impl<'n> LiteralMatcher<'n> {
     // The position of the first occurrence, of which this is known in the part that is near.
     #[inline(never)]
     fn first_from(&self, haystack: &[u8], nearest: Nearest) -> Option<usize>
-        requires { IsNearest (slice_range haystack.now 0 (near_end haystack.now self.now)) self.now 0
-            nearest }
+        requires { IsNearest (slice_range haystack.now 0 (near_end haystack.now self.now))
+            self.now 0 nearest }
         ensures { FindsNeedle haystack.now self.now 0 result }
     {
         let end = near_end(haystack, self.finder.needle());
@@ -146,12 +146,13 @@ impl<'n> LiteralMatcher<'n> {
         }
     }
 
-    /// The first match from a position on: as `find_at`, with no room for an error. The caller ensures
-    /// that the position is in the haystack, or at its end.
+    /// The first match from a position on: as `find_at`, with no room for an error. The caller
+    /// ensures that the position is in the haystack, or at its end.
     #[inline]
     pub fn match_at(&self, haystack: &[u8], start: usize) -> Option<Match>
         requires { start ≤ length haystack.now }
-        ensures value { result ≡ match_from start (literal_match self.now (drop start haystack.now)) }
+        ensures value { result
+            ≡ match_from start (literal_match self.now (drop start haystack.now)) }
         ensures within { IsFrom start haystack.now result }
         ensures avoids { Avoids (lacks self.now) haystack.now result }
     {

@@ -68,8 +68,8 @@ impl Probe {
         Some(Probe::Three(first, second, third))
     }
 
-    /// The position of the first occurrence of the literal that a finder has, which is this probe's,
-    /// if none is near.
+    /// The position of the first occurrence of the literal that a finder has, which is this
+    /// probe's, if none is near.
     pub(crate) fn find_after(&self, finder: &Finder<'_>, haystack: &[u8]) -> Option<usize>
         requires probe { IsProbeOf self.now finder.now }
         requires within { NEAR ≤ length haystack.now }

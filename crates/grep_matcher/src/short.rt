@@ -23,8 +23,8 @@ pub(crate) enum Nearest {
     NotBefore(usize),
 }
 
-/// The position of the first occurrence of the literal that a finder has from `start` on. The caller
-/// ensures that `start` is in the haystack, or at its end.
+/// The position of the first occurrence of the literal that a finder has from `start` on. The
+/// caller ensures that `start` is in the haystack, or at its end.
 #[inline(always)]
 pub(crate) fn find_from(finder: &Finder<'_>, haystack: &[u8], start: usize) -> Option<usize>
     requires { start ≤ length haystack.now }
@@ -37,8 +37,8 @@ pub(crate) fn find_from(finder: &Finder<'_>, haystack: &[u8], start: usize) -> O
     )
 }
 
-/// What is known of where a literal occurs first from `start` on, by vectors. The caller ensures that
-/// `start` is in the haystack, or at its end.
+/// What is known of where a literal occurs first from `start` on, by vectors. The caller ensures
+/// that `start` is in the haystack, or at its end.
 #[inline(always)]
 pub(crate) fn nearest_from(literal: &[u8], haystack: &[u8], start: usize) -> Nearest
     requires { start ≤ length haystack.now }
@@ -89,8 +89,8 @@ pub(crate) fn has_three(literal: &[u8]) -> bool
     !literal.is_empty() && literal.len() <= 3
 }
 
-/// The position of the first occurrence from one on where the first, the middle and the last byte of
-/// the literal are.
+/// The position of the first occurrence from one on where the first, the middle and the last byte
+/// of the literal are.
 #[inline(always)]
 pub(crate) fn find_marked(finder: &Finder<'_>, haystack: &[u8], at: usize) -> Option<usize>
     requires { ResemblesAt haystack.now finder.now at }

@@ -1,8 +1,9 @@
 //! Outputs of bytes: a trait whose contract says each call that is made, an adapter of standard
-//! writers, writing a text whole, texts that are kept before they are written, and numbers in decimal.
+//! writers, writing a text whole, texts that are kept before they are written,
+//! and numbers in decimal.
 //!
-//! `specs/Outputs.antt` defines what a call and a run of calls do, and `specs/PendingTexts.antt` what
-//! comes of a text that is put after others.
+//! `specs/Outputs.antt` defines what a call and a run of calls do, and `specs/PendingTexts.antt`
+//! what comes of a text that is put after others.
 #![tactic(auto)]
 
 mod numeral;

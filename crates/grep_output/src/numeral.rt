@@ -14,8 +14,8 @@ pub const MARKED_LEN: usize = 21;
 // How many digits the hundreds of a number of 64 bits have at most.
 const HUNDREDS_LEN: usize = 18;
 
-/// Puts numbers in decimal into a text. The digits of the last number's hundreds are kept, since the
-/// next number mostly has the same.
+/// Puts numbers in decimal into a text. The digits of the last number's hundreds are kept, since
+/// the next number mostly has the same.
 #[derive(Drop)]
 pub struct Numeral {
     hundreds: u64,
@@ -45,9 +45,9 @@ impl Numeral {
         }
     }
 
-    /// Puts a number and a mark into a text at a position, and returns the position after them. What
-    /// comes after is overwritten, within `MARKED_LEN` bytes from the position on: the caller ensures
-    /// that there are as many, and those after them stay.
+    /// Puts a number and a mark into a text at a position, and returns the position after them.
+    /// What comes after is overwritten, within `MARKED_LEN` bytes from the position on: the caller
+    /// ensures that there are as many, and those after them stay.
     #[inline]
     pub fn put(&mut self, number: u64, mark: u8, text: &mut [u8], at: usize) -> usize
         requires { at + 21 ≤ length text.old }

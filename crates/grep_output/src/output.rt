@@ -13,8 +13,8 @@ use std::io;
 /// An output of bytes.
 ///
 /// It is given by its steps: the state before a call, the call with what it was given and returned,
-/// and the state after. It may also say which bytes it holds. A write then adds what it took to those,
-/// and no other call changes them.
+/// and the state after. It may also say which bytes it holds. A write then adds what it took to
+/// those, and no other call changes them.
 pub trait Output {
     /// The bytes that it holds, if the output says which.
     ghost contents: { Self → Option (List ℕ) } = { λ _. None };
@@ -37,8 +37,8 @@ pub trait Output {
         → Appends (contents s) (contents t) (taken_by call) };
 }
 
-/// A reference is the output that it refers to: each call is that output's, and it stays a reference
-/// to that output.
+/// A reference is the output that it refers to: each call is that output's, and it stays a
+/// reference to that output.
 impl<W: Output> Output for &mut W {
     ghost contents = { λ s. W.contents s.now };
 

@@ -208,7 +208,8 @@ impl Pending {
     }
 
     /// Writes the texts, after which there is none. An error is the writer's own, or of kind
-    /// `WriteZero` as for `write_all`: then some first bytes are written, and the others aren't kept.
+    /// `WriteZero` as for `write_all`: then some first bytes are written,
+    /// and the others aren't kept.
     pub fn write_to<W: Output>(&mut self, writer: &mut W) -> io::Result<()>
         ensures written { Writes W.step writer.old (pending_bytes self.old) result writer.new }
         ensures emptied { pending_bytes self.new ≡ [] }

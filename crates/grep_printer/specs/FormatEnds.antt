@@ -32,18 +32,21 @@ pub vimgrep-ends : Ends vimgrep_rules
 vimgrep-ends format = standard-ends format.lines
 
 -- `finish` stays the same call where parts are replaced
-end-stays : (template : Template) (groups_at : List ℕ → ℕ → List (Option (ℕ × ℕ))) (settings : Settings)
-    (meaning : Meaning) (printed : PrintedCall) (count : ℕ) (binary : Option ℕ) → printed.call ≡ finishes count binary
+end-stays : (template : Template) (groups_at : List ℕ → ℕ → List (Option (ℕ × ℕ)))
+    (settings : Settings) (meaning : Meaning) (printed : PrintedCall) (count : ℕ)
+    (binary : Option ℕ) → printed.call ≡ finishes count binary
     → (replaced_call template groups_at settings meaning printed).call ≡ finishes count binary
 end-stays template groups_at settings meaning printed count binary is = rw is refl
 
-pub replaced-ends : {F M : Type 0} (rules : Rules F) (groups_at : M → List ℕ → ℕ → List (Option (ℕ × ℕ)))
-    (meaning_of : M → Meaning) → Ends rules → Ends (replaced_rules rules groups_at meaning_of)
+pub replaced-ends : {F M : Type 0} (rules : Rules F)
+    (groups_at : M → List ℕ → ℕ → List (Option (ℕ × ℕ))) (meaning_of : M → Meaning) → Ends rules
+    → Ends (replaced_rules rules groups_at meaning_of)
 replaced-ends rules groups_at meaning_of ends format scene printed count binary is =
-    ends format.format scene (replaced_call format.template.now (groups_at format.matcher) scene.settings
-    (meaning_of format.matcher) printed) count binary
-    (end-stays format.template.now (groups_at format.matcher) scene.settings (meaning_of format.matcher) printed
-    count binary is)
+    ends format.format scene (replaced_call format.template.now (groups_at format.matcher)
+    scene.settings (meaning_of format.matcher) printed) count binary
+    (end-stays format.template.now (groups_at format.matcher) scene.settings
+    (meaning_of format.matcher) printed count binary is)
 
 pub counted-ends : {F : Type 0} (rules : Rules F) → Ends rules → Ends (counted_rules rules)
-counted-ends rules ends format scene printed count binary is = ends format.format scene printed count binary is
+counted-ends rules ends format scene printed count binary is =
+    ends format.format scene printed count binary is

@@ -5,17 +5,19 @@ use Rattle.std.specs.Prelude.{length, Option, None, Some}
 use Rattle.std.specs.List.{flat_map, list_any, prefix_len}
 use Rattle.std.specs.Str.{bytes_eq}
 use Rattle.grep_printer.specs.declared.hyperlink_format.HyperlinkFormatError.{HyperlinkFormatError}
-use Rattle.grep_printer.specs.declared.hyperlink_format.HyperlinkFormatError.TheVariants.{Memory}
-use Rattle.grep_printer.specs.declared.hyperlink_format.HyperlinkFormatError.TheVariants.{NoLine}
-use Rattle.grep_printer.specs.declared.hyperlink_format.HyperlinkFormatError.TheVariants.{NoPath}
-use Rattle.grep_printer.specs.declared.hyperlink_format.HyperlinkFormatError.TheVariants.{NoScheme}
-use Rattle.grep_printer.specs.declared.hyperlink_format.HyperlinkFormatError.TheVariants.{NoVariable}
-use Rattle.grep_printer.specs.declared.hyperlink_format.HyperlinkFormatError.TheVariants.{Unclosed}
-use Rattle.grep_printer.specs.declared.hyperlink_format.HyperlinkFormatError.TheVariants.{UnknownVariable}
-use Rattle.grep_printer.specs.declared.hyperlink_format.HyperlinkFormatError.TheVariants.{Unopened}
+use Rattle.grep_printer.specs.declared.hyperlink_format.HyperlinkFormatError.TheVariants.{
+  Memory,
+  NoLine,
+  NoPath,
+  NoScheme,
+  NoVariable,
+  Unclosed,
+  UnknownVariable,
+  Unopened,
+}
 use Rattle.grep_printer.specs.declared.hyperlink_format.HyperlinkPart.{HyperlinkPart}
-use Rattle.grep_printer.specs.declared.hyperlink_format.HyperlinkPart.TheVariants.{Byte, Column, Host}
-use Rattle.grep_printer.specs.declared.hyperlink_format.HyperlinkPart.TheVariants.{Line, Path}
+use Rattle.grep_printer.specs.declared.hyperlink_format.HyperlinkPart.TheVariants.{Byte, Column}
+use Rattle.grep_printer.specs.declared.hyperlink_format.HyperlinkPart.TheVariants.{Host, Line, Path}
 use Rattle.grep_printer.specs.declared.hyperlink_format.HyperlinkPart.TheVariants.{WslPrefix}
 
 -- a byte as a format spells it: braces are doubled
@@ -63,7 +65,8 @@ name_len bytes = prefix_len (λ byte. not (byte == 125)) bytes
 abbrev pub IsMalformedIn : List ℕ → HyperlinkFormatError → Type 0
 IsMalformedIn rest Unclosed = begins_with 125 (drop (name_len rest) rest) ≡ false
 IsMalformedIn rest (UnknownVariable name) = (later : List ℕ)
-    × (name.now ≡ take (name_len rest) rest) × (rest ≡ name.now ++ 125 ∷ later) × (variable_of name.now ≡ None)
+    × (name.now ≡ take (name_len rest) rest) × (rest ≡ name.now ++ 125 ∷ later)
+    × (variable_of name.now ≡ None)
 IsMalformedIn rest error = ⊥
 
 -- an error at the beginning of some bytes: they begin with a closing brace that isn't doubled, or

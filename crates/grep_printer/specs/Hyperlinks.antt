@@ -8,8 +8,8 @@ use Rattle.std.specs.Option.{option_map, unwrap_or}
 use Rattle.grep_printer.specs.ColoredTexts.{colored}
 use Rattle.grep_printer.specs.HyperlinkFormats.{has_line}
 use Rattle.grep_printer.specs.declared.hyperlink_format.HyperlinkPart.{HyperlinkPart}
-use Rattle.grep_printer.specs.declared.hyperlink_format.HyperlinkPart.TheVariants.{Byte, Column, Host}
-use Rattle.grep_printer.specs.declared.hyperlink_format.HyperlinkPart.TheVariants.{Line, Path}
+use Rattle.grep_printer.specs.declared.hyperlink_format.HyperlinkPart.TheVariants.{Byte, Column}
+use Rattle.grep_printer.specs.declared.hyperlink_format.HyperlinkPart.TheVariants.{Host, Line, Path}
 use Rattle.grep_printer.specs.declared.hyperlink_format.HyperlinkPart.TheVariants.{WslPrefix}
 use Rattle.grep_printer.specs.declared.hyperlinks.Hyperlink.{Hyperlink}
 use Rattle.grep_printer.specs.declared.hyperlinks.PrinterPath.{PrinterPath}

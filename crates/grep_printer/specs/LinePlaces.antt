@@ -2,7 +2,8 @@
 use Rattle.std.specs.Prelude.{◌≡◌, ℕ, ◌+◌, ◌<◌, ◌^◌, List, length, take, Option}
 use Rattle.std.specs.List.{concat, enumerate_from, flat_map}
 use Rattle.std.specs.Option.{IfSome}
-use Rattle.grep_printer.specs.LineTexts.{line_text, lines_text, number_after, plain_line, plain_lines}
+use Rattle.grep_printer.specs.LineTexts.{line_text, lines_text, number_after}
+use Rattle.grep_printer.specs.LineTexts.{plain_line, plain_lines}
 use Rattle.grep_printer.specs.declared.fields.Layout.{Layout}
 use Rattle.grep_printer.specs.declared.fields.LineKind.{LineKind}
 use Rattle.grep_printer.specs.declared.fields.Place.{Place}

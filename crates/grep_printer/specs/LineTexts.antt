@@ -182,8 +182,8 @@ abbrev pub counted_more : ℕ → List ℕ
 counted_more count = codes " [... "
     ++ (decimal count ++ (if count == 1 then codes " more match]" else codes " more matches]"))
 
--- what is written after the first bytes of a line that is too long, by how many parts are in it, and
--- how many begin after those bytes
+-- what is written after the first bytes of a line that is too long, by how many parts are in it,
+-- and how many begin after those bytes
 abbrev pub more_notice : ℕ → ℕ → List ℕ
 more_notice all later =
     if all == 0 then codes " [... omitted end of long line]" else counted_more later
@@ -247,7 +247,8 @@ module _ (layout : Layout) where
   -- its start
   abbrev pub highlight_of : LineKind → Place → List (ℕ × ℕ) → Option (List ℕ)
   highlight_of Match place parts =
-      if list_any (reaches place.start) parts then highlight_color layout.config.color_specs else None
+      if list_any (reaches place.start) parts then highlight_color layout.config.color_specs
+      else None
   highlight_of Context place parts = None
 
   -- a line that begins at a position of its report. The bytes that are in a part are colored, and

@@ -1,6 +1,6 @@
 -- What a search of a source writes, by a printer of any format.
-use Rattle.std.specs.Prelude.{◌≡◌, ℕ, Bool, true, false, MatchBool, List, length, Option, None, Result}
-use Rattle.std.specs.Prelude.{Ok, Err}
+use Rattle.std.specs.Prelude.{◌≡◌, ℕ, Bool, true, false, MatchBool, List, length, Option, None}
+use Rattle.std.specs.Prelude.{Result, Ok, Err}
 use Rattle.std.specs.Global.{Global}
 use Rattle.std.specs.declared.io.Error.{Error}
 use Rattle.grep_output.specs.Outputs.{OutputCall}
@@ -10,8 +10,8 @@ use Rattle.grep_searcher.specs.Plans.{IsAskedWith, Plan, Planned, SearcherState,
 use Rattle.grep_searcher.specs.Plans.{refusal_of, search_plan}
 use Rattle.grep_searcher.specs.SearchErrors.{IsMessageOf}
 use Rattle.grep_searcher.specs.Searches.{BinaryPoint, IsInputOf, IsPoint, IsUnlessRefusedBy}
-use Rattle.grep_searcher.specs.Searches.{IsAllSeen, IsCut, IsInOrder, IsReaderSearch, IsReadingError}
-use Rattle.grep_searcher.specs.Searches.{Look, Points, Taken}
+use Rattle.grep_searcher.specs.Searches.{IsAllSeen, IsCut, IsInOrder, IsReaderSearch}
+use Rattle.grep_searcher.specs.Searches.{IsReadingError, Look, Points, Taken}
 use Rattle.grep_searcher.specs.Searches.{calls_with, look_of}
 use Rattle.grep_searcher.specs.Searches.{plan_with, quits, view_in, viewed_plan}
 use Rattle.grep_searcher.specs.Source.{ReadResult}
@@ -34,7 +34,8 @@ search_errors output = makers_of output (record {
   is_config = λ error e. e ≡ Config error;
 })
 
--- the sink that a printer gives for a writer and a search with a matcher, and a path if there is one
+-- the sink that a printer gives for a writer and a search with a matcher,
+-- and a path if there is one
 pub record IsSinkFor {F M W : Type 0} (rules : Rules F) (printer : Printer F) (writer : W)
     (matcher : M) (path : Option PrinterPath) (sink : PrinterSink F M W) : Type 0 where
   pub is_of : sink.printer.now ≡ printer
@@ -146,8 +147,8 @@ module _ {F M W E : Type 0} (rules : Rules F) (output : E → Option (List ℕ))
       of_reading : {mid reader' : R} {new : PrinterSink F M W}
           (taken : Taken remaining read_step reader mid) (begun : Bool) (seen : List ℕ)
           (error : Error)
-          → IsCut remaining read_step state (facts old.matcher).meaning reader mid reader' taken seen
-          begun error
+          → IsCut remaining read_step state (facts old.matcher).meaning reader mid reader' taken
+          seen begun error
           → MatchBool begun (PrintsFirst old state.settings (IsPointOfAll taken old (length seen))
           (search_plan state.settings (facts old.matcher).meaning seen).calls new) (new ≡ old)
           → IsSourcePrinted reader old (Err (Io error)) reader' new

@@ -113,7 +113,8 @@ module _ {F M W E : Type 0} (rules : Rules F) (output : E → Option (List ℕ))
     pub error : Error
     pub is_io : e ≡ Io error
     pub failed : FailsToWrite write_step old.writer.now
-        (pending_bytes old.printer.now.pending ++ text_of rules old settings printed) error new.writer.now
+        (pending_bytes old.printer.now.pending ++ text_of rules old settings printed) error
+        new.writer.now
     pub pending : pending_bytes new.printer.now.pending ≡ []
     pub format : new.format ≡ rules.next old.format (scene_of old settings) printed
     pub has_failed : new.printer.now.has_failed ≡ true
@@ -220,7 +221,8 @@ module _ {F M W E : Type 0} (rules : Rules F) (output : E → Option (List ℕ))
       × (new.format ≡ rules.next mid.format (scene_of mid settings) tried)
       × (new.printer.now.has_failed ≡ true)
       × FailsToWrite write_step mid.writer.now
-      (pending_bytes mid.printer.now.pending ++ text_of rules mid settings tried) error new.writer.now)
+      (pending_bytes mid.printer.now.pending ++ text_of rules mid settings tried) error
+      new.writer.now)
       ⊎ FailsBefore mid settings tried.call e new
       ⊎ PrintsSome mid settings tried e new
 

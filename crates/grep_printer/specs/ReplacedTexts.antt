@@ -1,6 +1,6 @@
 -- Reports in which each part that matches is replaced.
-use Rattle.std.specs.Prelude.{false, ℕ, ◌+◌, ◌-◌, true, List, [], ◌∷◌, ◌++◌, drop, length, slice_range}
-use Rattle.std.specs.Prelude.{if◌then◌else◌, Option, None, Some}
+use Rattle.std.specs.Prelude.{false, ℕ, ◌+◌, ◌-◌, true, List, [], ◌∷◌, ◌++◌, drop, length}
+use Rattle.std.specs.Prelude.{slice_range, if◌then◌else◌, Option, None, Some}
 use Rattle.grep_replace.specs.Templates.{group_text, template_text}
 use Rattle.grep_replace.specs.declared.template.Template.{Template}
 use Rattle.grep_searcher.specs.Lines.{byte_of}
@@ -14,7 +14,8 @@ use Rattle.grep_printer.specs.declared.replaced_format.ReplacedFormat.{ReplacedF
 
 -- what is written in place of the part at a position of a report: what the template makes of the
 -- groups of the match there, in the bytes about which the matcher was asked
-abbrev pub replacement_at : {M : Type 0} → (M → List ℕ → ℕ → List (Option (ℕ × ℕ))) → Replacement M → ℕ → List ℕ
+abbrev pub replacement_at : {M : Type 0} → (M → List ℕ → ℕ → List (Option (ℕ × ℕ)))
+    → Replacement M → ℕ → List ℕ
 replacement_at groups_at r position = template_text r.template.now
     (group_text r.asked.now (groups_at r.matcher r.asked.now (r.start + position)))
 
@@ -54,8 +55,8 @@ with_bytes (context kind number offset old) bytes = context kind number offset b
 with_bytes call bytes = call
 
 -- By a template, and by the groups of the first match of a haystack from a position on.
-module _ (template : Template) (groups_at : List ℕ → ℕ → List (Option (ℕ × ℕ))) (settings : Settings)
-    (meaning : Meaning) where
+module _ (template : Template) (groups_at : List ℕ → ℕ → List (Option (ℕ × ℕ)))
+    (settings : Settings) (meaning : Meaning) where
   -- what is written in place of the part at a position of a report: what the template makes of the
   -- groups of the match there, in the bytes about which the matcher was asked
   abbrev pub text_in_place : Call → ℕ → List ℕ
@@ -72,7 +73,8 @@ module _ (template : Template) (groups_at : List ℕ → ℕ → List (Option (�
     parts = replaced_parts (text_in_place call) 0 0 parts;
   }
 
-  -- the call as it is printed: a report with parts as they are replaced, and any other call as it is
+  -- the call as it is printed: a report with parts as they are replaced,
+  -- and any other call as it is
   abbrev pub replaced_by : PrintedCall → Call → List (ℕ × ℕ) → PrintedCall
   replaced_by printed (matches number offset bytes around) (part ∷ later) =
       replaced_report (matches number offset bytes around) (part ∷ later)
@@ -84,8 +86,8 @@ module _ (template : Template) (groups_at : List ℕ → ℕ → List (Option (�
   replaced_call printed = replaced_by printed printed.call printed.parts
 
 -- what a format writes of calls in which each part is replaced: the parts are always asked for
-abbrev pub replaced_rules : {F M : Type 0} → Rules F → (M → List ℕ → ℕ → List (Option (ℕ × ℕ))) → (M → Meaning)
-    → Rules (ReplacedFormat F M)
+abbrev pub replaced_rules : {F M : Type 0} → Rules F
+    → (M → List ℕ → ℕ → List (Option (ℕ × ℕ))) → (M → Meaning) → Rules (ReplacedFormat F M)
 replaced_rules rules groups_at meaning_of = record {
   begun = λ format follows. record format { format = rules.begun format.format follows };
   asks = λ format call. true;
@@ -93,11 +95,12 @@ replaced_rules rules groups_at meaning_of = record {
       (groups_at format.matcher) scene.settings (meaning_of format.matcher) printed);
   next = λ format scene printed. record format {
     format = rules.next format.format scene
-        (replaced_call format.template.now (groups_at format.matcher) scene.settings (meaning_of format.matcher)
-        printed);
+        (replaced_call format.template.now (groups_at format.matcher) scene.settings
+        (meaning_of format.matcher) printed);
   };
-  goes_on = λ format scene printed. rules.goes_on format.format scene (replaced_call format.template.now
-      (groups_at format.matcher) scene.settings (meaning_of format.matcher) printed);
+  goes_on = λ format scene printed. rules.goes_on format.format scene
+      (replaced_call format.template.now (groups_at format.matcher) scene.settings
+      (meaning_of format.matcher) printed);
   has_match = λ format. rules.has_match format.format;
   is_bare = λ format scene. false;
 }

@@ -116,7 +116,8 @@ module _ {R : Type 0} (text_at : R → TextAt) where
   SearchesAreReadBack =
       (format : JsonFormat R) (scene : Scene) (calls : List PrintedCall) → All HasPrintedWords calls
       → AreReadBack (messages_of format.always_begin_end (shown_path scene.path)
-      (texts_of format scene) format.progress.is_begun calls) (printed_by (json_rules text_at) scene format calls).text
+      (texts_of format scene) format.progress.is_begun calls)
+      (printed_by (json_rules text_at) scene format calls).text
 
   -- the text of a search tells its reports: any search with this text has the same reports
   abbrev pub SearchesTell : Type 0

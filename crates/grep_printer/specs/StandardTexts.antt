@@ -56,7 +56,8 @@ abbrev pub binary_message : Option (List ℕ) → BinaryDetection → Option Pri
 binary_message color no_detection path offset = []
 binary_message color (Quit byte) path offset =
     path_prefix color path
-    ++ (codes "WARNING: stopped searching binary file after match (found \"\\0\" byte around offset "
+    ++ (codes
+    "WARNING: stopped searching binary file after match (found \"\\0\" byte around offset "
     ++ (decimal offset ++ codes ")\n"))
 binary_message color (Convert byte) path offset =
     path_prefix color path

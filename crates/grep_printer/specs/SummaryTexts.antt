@@ -54,7 +54,8 @@ count_line config path terminator count =
 -- a path in a line of its own, if there is one
 abbrev pub path_line : SummaryConfig → Option PrinterPath → ℕ → List ℕ
 path_line config path terminator =
-    path_field (path_color config.color_specs) (unwrap_or config.path_terminator terminator ∷ []) path
+    path_field (path_color config.color_specs)
+    (unwrap_or config.path_terminator terminator ∷ []) path
 
 -- whether a search found what it is for, by how many matches were reported
 abbrev pub has_found : SummaryKind → ℕ → Bool
@@ -156,7 +157,8 @@ summary_rules = record {
     counts = counts_after format.counts scene.settings.binary_detection printed.call
         (length printed.parts);
   };
-  goes_on = λ format scene printed. sums_on format.config.counts_all format.config.kind printed.call;
+  goes_on = λ format scene printed.
+      sums_on format.config.counts_all format.config.kind printed.call;
   has_match = λ format. has_found format.config.kind format.counts.match_count;
   is_bare = λ format scene. false;
 }

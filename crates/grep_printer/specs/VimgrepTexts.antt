@@ -40,7 +40,8 @@ module _ (layout : Layout) (kind : LineKind) (offset : ℕ) (bytes : List ℕ) w
   -- the line of each part, by the number of the first line
   abbrev pub part_lines : Option ℕ → List (ℕ × ℕ) → List ℕ
   part_lines number parts = flat_map
-      (λ part. part_line (number_after number (lines_before (end_byte layout) bytes part.0)) part) parts
+      (λ part. part_line (number_after number (lines_before (end_byte layout) bytes part.0)) part)
+      parts
 
 -- the text of a call, by what was reported before. A report with parts has the line of each part,
 -- and any other call has the text that a printer of lines writes

@@ -202,7 +202,8 @@ fn push_run(
     bytes: &[u8],
 ) -> bool
     ensures after { result ≡ after_run before is_colored bytes.now }
-    ensures text { Adds text.old text.new (run_text color.now back.now before is_colored bytes.now) }
+    ensures text { Adds text.old text.new
+        (run_text color.now back.now before is_colored bytes.now) }
 {
     if bytes.is_empty() {
         return before;

@@ -12,8 +12,8 @@ ghost use Rattle.grep_printer.specs.LineTexts.{preview_len, preview_text, previe
 ghost use Rattle.grep_printer.specs.LineTexts.{counted_parts, fields, highlight_of};
 ghost use Rattle.grep_printer.specs.LineTexts.{indentation, is_long, is_space, is_touching};
 ghost use Rattle.grep_printer.specs.LineTexts.{line_text};
-ghost use Rattle.grep_printer.specs.LineTexts.{lines_text, mark_after, mark_of, missing_end, notice};
-ghost use Rattle.grep_printer.specs.LineTexts.{next_number, number_field, opening_text};
+ghost use Rattle.grep_printer.specs.LineTexts.{lines_text, mark_after, mark_of, missing_end};
+ghost use Rattle.grep_printer.specs.LineTexts.{notice, next_number, number_field, opening_text};
 ghost use Rattle.grep_printer.specs.LineTexts.{linked_fields, marked_fields, next_mark};
 ghost use Rattle.grep_printer.specs.LineTexts.{next_number_field, path_mark, shown_column};
 ghost use Rattle.grep_printer.specs.Hyperlinks.{shown_path};

@@ -1,5 +1,6 @@
 //! The text of a message in JSON, to which it is pushed piece by piece.
-ghost use Rattle.std.specs.Prelude.{◌≡◌, ◌≤◌, ◌∷◌, ◌++◌, [], OnOk, decimal, drop, false, length, take};
+ghost use Rattle.std.specs.Prelude.{◌≡◌, ◌≤◌, ◌∷◌, ◌++◌, []};
+ghost use Rattle.std.specs.Prelude.{OnOk, decimal, drop, false, length, take};
 ghost use Rattle.json.specs.Print.{print};
 ghost use Rattle.json.specs.Token.{key, number};
 ghost use Rattle.grep_printer.specs.JsonPieces.{piece_tokens, pieces_tokens};

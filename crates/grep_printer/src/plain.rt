@@ -1,5 +1,6 @@
 //! Reports whose lines are written as they are, each after its number alone.
-ghost use Rattle.std.specs.Prelude.{◌≡◌, ◌≤◌, ◌<◌, ◌∷◌, ◌++◌, [], MatchBool, length, slice_range, true};
+ghost use Rattle.std.specs.Prelude.{◌≡◌, ◌≤◌, ◌<◌, ◌∷◌, ◌++◌, []};
+ghost use Rattle.std.specs.Prelude.{MatchBool, length, slice_range, true};
 ghost use Rattle.std.specs.List.{count_by, flat_map};
 ghost use Rattle.grep_matcher.specs.Lines.{byte_of, lines};
 ghost use Rattle.grep_printer.specs.LineTexts.{is_plain, missing_end, plain_line, plain_lines};

@@ -1,6 +1,6 @@
 //! A printer of any format, and the sink of one search after another.
-ghost use Rattle.std.specs.Prelude.{◌≡◌, ◌⊎◌, ◌+◌, ◌<◌, ◌≤◌, ◌^◌, ◌&&◌, ◌||◌, [], true, false, IfErr};
-ghost use Rattle.std.specs.Prelude.{Err, IfNone, IfSome, MatchResult, Ok, OnErr, OnOk, ◌++◌};
+ghost use Rattle.std.specs.Prelude.{◌≡◌, ◌⊎◌, ◌+◌, ◌<◌, ◌≤◌, ◌^◌, ◌&&◌, ◌||◌, [], true, false};
+ghost use Rattle.std.specs.Prelude.{IfErr, Err, IfNone, IfSome, MatchResult, Ok, OnErr, OnOk, ◌++◌};
 ghost use Rattle.grep_output.specs.Outputs.{FailsToWrite, Writes};
 ghost use Rattle.std.specs.Prelude.{MatchBool, if◌then◌else◌, is_ok, length, IsOk, List, ℕ};
 ghost use Rattle.grep_matcher.specs.Lines.{byte_of};

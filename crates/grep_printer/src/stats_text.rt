@@ -29,8 +29,8 @@ impl<F> Printer<CountedFormat<F>> {
         ensures { MatchResult result
             (λ _. PutsText W.step writer.old self.old (stats_text stats.now (nanos_of elapsed))
             writer.new self.new)
-            (λ e. FailsToPutText W.step writer.old self.old (stats_text stats.now (nanos_of elapsed)) e
-            writer.new self.new) }
+            (λ e. FailsToPutText W.step writer.old self.old
+            (stats_text stats.now (nanos_of elapsed)) e writer.new self.new) }
     {
         self.pending.begin();
         push_stats(&mut self.pending, stats, nanoseconds(elapsed));

@@ -14,7 +14,8 @@ decision_by set after None = Some false
 decision_by set after (Some byte) =
     if nat_lt byte 128 then (if holds set byte then after else Some false) else None
 
--- whether a byte of each set follows from a position on; undecided where a byte that isn't ASCII comes first
+-- whether a byte of each set follows from a position on; undecided where a byte
+-- that isn't ASCII comes first
 abbrev pub decision : List (List Bool) → List ℕ → ℕ → Option Bool
 decision [] hay i = Some true
 decision (set ∷ sets) hay i = decision_by set (decision sets hay (i + 1)) (slice_get hay i)
@@ -32,7 +33,8 @@ AreBytes (b ∷ bytes) (set ∷ sets) = IsAsciiOf ((b, b) ∷ []) set × AreByte
 
 -- where that is decided, the pattern matches a byte of each set, and nothing else
 pub record IsRun (re : Re) (sets : List (List Bool)) : Type 0 where
-  pub yes : (hay : List ℕ) (i : ℕ) → decision sets hay i ≡ Some true → Matches hay re i (i + length sets)
+  pub yes : (hay : List ℕ) (i : ℕ) → decision sets hay i ≡ Some true
+      → Matches hay re i (i + length sets)
   pub only : (hay : List ℕ) (i j : ℕ) → decision sets hay i ≡ Some true → Matches hay re i j
       → j ≡ i + length sets
   pub no : (hay : List ℕ) (i j : ℕ) → decision sets hay i ≡ Some false → Matches hay re i j → ⊥
@@ -57,8 +59,10 @@ any_decision (sets ∷ more) hay i = either_decision (decision sets hay i) (any_
 
 -- where that is decided, the pattern matches or it doesn't
 pub record DecideAny (re : Re) (choices : List (List (List Bool))) : Type 0 where
-  pub yes : (hay : List ℕ) (i : ℕ) → any_decision choices hay i ≡ Some true → (j : ℕ) × Matches hay re i j
-  pub no : (hay : List ℕ) (i j : ℕ) → any_decision choices hay i ≡ Some false → Matches hay re i j → ⊥
+  pub yes : (hay : List ℕ) (i : ℕ) → any_decision choices hay i ≡ Some true
+      → (j : ℕ) × Matches hay re i j
+  pub no : (hay : List ℕ) (i j : ℕ) → any_decision choices hay i ≡ Some false
+      → Matches hay re i j → ⊥
 
 -- the size of a sequence that follows, or what comes later if it doesn't
 abbrev pub size_by : ℕ → Option ℕ → Option Bool → Option ℕ

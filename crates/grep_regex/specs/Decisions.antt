@@ -1,5 +1,6 @@
 -- What sets of bytes decide of the first match.
-use Rattle.std.specs.Prelude.{◌≡◌, ◌≢◌, drop, ℕ, ◌+◌, ◌<◌, ◌≤◌, Bool, true, false, List, Option, Some}
+use Rattle.std.specs.Prelude.{◌≡◌, ◌≢◌, drop, ℕ, ◌+◌, ◌<◌, ◌≤◌}
+use Rattle.std.specs.Prelude.{Bool, true, false, List, Option, Some}
 use Rattle.grep_regex.specs.Classes.{decision}
 use Rattle.grep_regex.specs.declared.classes.Start.{Start}
 use Rattle.grep_regex.specs.declared.classes.Start.TheVariants.{Match, From, Nowhere}

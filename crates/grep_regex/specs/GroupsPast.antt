@@ -1,6 +1,7 @@
 -- From a position past a haystack there are no groups. This is the proof of a law of `CapturesAt`,
 -- which may cite `specs` alone.
-use Rattle.std.proofs.Common.{◌≡◌, ℕ, ◌<◌, List, [], length, Option, Some, None, option_map, refl, sym, arith}
+use Rattle.std.proofs.Common.{◌≡◌, ℕ, ◌<◌, List, [], length, Option}
+use Rattle.std.proofs.Common.{Some, None, option_map, refl, sym, arith}
 use Rattle.std.proofs.lemmas.Option.{none-some}
 use Rattle.std.specs.Option.{option_map_or}
 use Rattle.regex_hir.specs.Find.{Match}
@@ -19,7 +20,8 @@ groups-of-none size count (Some m) none = absurd (none-some (span m) (sym none))
 
 -- nor in what is seen of the haystack
 pub groups-past-seen : (o : Options) (patterns : List (List ℕ)) (haystack : List ℕ) (start : ℕ)
-    → length (seen_bytes o.line_terminator haystack) < start → groups_at o patterns haystack start ≡ []
+    → length (seen_bytes o.line_terminator haystack) < start
+    → groups_at o patterns haystack start ≡ []
 groups-past-seen o patterns haystack start past =
     let seen = seen_bytes o.line_terminator haystack in
     groups-of-none (length seen) (group_count o patterns)
@@ -29,4 +31,5 @@ groups-past-seen o patterns haystack start past =
 pub groups-past : (o : Options) (patterns : List (List ℕ)) (haystack : List ℕ) (start : ℕ)
     → length haystack < start → groups_at o patterns haystack start ≡ []
 groups-past o patterns haystack start past =
-    groups-past-seen o patterns haystack start (omega (arith, past, seen-fits o.line_terminator haystack))
+    groups-past-seen o patterns haystack start
+    (omega (arith, past, seen-fits o.line_terminator haystack))

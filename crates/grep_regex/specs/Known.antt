@@ -7,7 +7,8 @@ use Rattle.grep_regex.specs.declared.regex.Regex.{Regex}
 use Rattle.grep_regex.specs.declared.known.Known.{Known}
 use Rattle.grep_regex.specs.declared.known.Known.TheVariants.{Answer, From}
 
--- of the first match of a text from a position on: the answer, or a position up to which no match starts
+-- of the first match of a text from a position on: the answer,
+-- or a position up to which no match starts
 abbrev pub IsKnown : Regex → Asked → List ℕ → ℕ → Known → Type 0
 IsKnown r asked text start (Answer found) =
     IsAnswer asked (regex_text_at r text start) found × IsFrom start text found

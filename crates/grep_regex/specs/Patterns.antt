@@ -162,11 +162,13 @@ pub record FindsSpans (o : Options) (patterns : List (List ℕ)) (re : Re) : Typ
   pub at : (text : List ℕ) (start : ℕ) → All (λ x. x < 256) text → start ≤ length text →
       leftmost_match_at re text start ≡ text_match_at o patterns text start
 
--- the pattern finds in each text, from each position on, what the patterns find there, with the same groups
+-- the pattern finds in each text, from each position on, what the patterns find there,
+-- with the same groups
 pub record FindsAs (o : Options) (patterns : List (List ℕ)) (re : Re) : Type 0 where
   pub at : (text : List ℕ) (start : ℕ) → All (λ x. x < 256) text → start ≤ length text →
       leftmost_match_at re text start ≡ text_match_at o patterns text start
-  pub captures : (count : ℕ) (text : List ℕ) (start : ℕ) → All (λ x. x < 256) text → start ≤ length text →
+  pub captures : (count : ℕ) (text : List ℕ) (start : ℕ) → All (λ x. x < 256) text
+      → start ≤ length text →
       option_map (captured count) (find re text start) ≡ option_map (captured count)
       (find_clear (excluded_bytes o.line_terminator) (written_re o patterns) text start)
 

@@ -10,7 +10,8 @@ AreSame a b = (byte : ℕ) → byte < 128 → holds a byte ≡ holds b byte
 pub record DifferAt (sets more : List (List Bool)) (at : ℕ) : Type 0 where
   pub long : length more ≡ length sets
   pub inside : at < length sets
-  pub same : (k : ℕ) → k < length sets → k ≢ at → AreSame (slice_index_or sets k []) (slice_index_or more k [])
+  pub same : (k : ℕ) → k < length sets → k ≢ at
+      → AreSame (slice_index_or sets k []) (slice_index_or more k [])
 
 -- the new sets have the members of both at the position where these differ
 pub record IsUnion (sets more new : List (List Bool)) : Type 0 where
@@ -18,5 +19,6 @@ pub record IsUnion (sets more new : List (List Bool)) : Type 0 where
   pub one : List Bool
   pub differ : DifferAt sets more at
   pub both : (byte : ℕ) → byte < 128
-      → holds one byte ≡ (holds (slice_index_or sets at []) byte || holds (slice_index_or more at []) byte)
+      → holds one byte
+      ≡ (holds (slice_index_or sets at []) byte || holds (slice_index_or more at []) byte)
   pub is : new ≡ set sets at one

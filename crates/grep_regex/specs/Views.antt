@@ -62,8 +62,8 @@ regex_groups_at r = groups_at (regex_options r) (regex_patterns r)
 abbrev pub regex_first : Regex → List ℕ → Option (ℕ × ℕ)
 regex_first r haystack = regex_first_at r haystack 0
 
--- what is found is the first match; for `AnyMatch` it is some pair exactly if there is a match, and for `Start` one
--- that starts where the match does
+-- what is found is the first match; for `AnyMatch` it is some pair exactly if there is a match, and
+-- for `Start` one that starts where the match does
 abbrev pub IsAnswer : Asked → Option (ℕ × ℕ) → Option (ℕ × ℕ) → Type 0
 IsAnswer FirstMatch first found = found ≡ first
 IsAnswer AnyMatch first found = is_some found ≡ is_some first

@@ -96,10 +96,10 @@ impl RegexMatcherBuilder {
     /// patterns nothing matches.
     ///
     /// An error is `InvalidLineTerminator` if the line terminator isn't ASCII, and `Syntax` if a
-    /// text isn't a pattern or is nested too deep. It is `NotAllowed` if a literal has a byte of the
-    /// line terminator, or a class has some of its bytes and no other member, and a text can name
-    /// that byte. It is `TooBig` if the compiled patterns are larger than the limit or have too many
-    /// groups, and `Memory` if there is none for them.
+    /// text isn't a pattern or is nested too deep. It is `NotAllowed` if a literal has a byte of
+    /// the line terminator, or a class has some of its bytes and no other member, and a text can
+    /// name that byte. It is `TooBig` if the compiled patterns are larger than the limit or have
+    /// too many groups, and `Memory` if there is none for them.
     pub fn build_many(&self, alloc: Global, patterns: &[&str]) -> Result<Regex, Error>
         ensures options { IfOk result (λ regex. regex_options regex ≡ self.now) }
         ensures patterns { IfOk result

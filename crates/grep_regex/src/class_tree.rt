@@ -18,8 +18,8 @@ const LONGEST: usize = 64;
 // How many alternatives there are at most, each of which is looked at.
 const MOST_CHOICES: usize = 8;
 
-// The sequences of sets that decide where a pattern matches, if there are such, and whether they say
-// where a match ends, too.
+// The sequences of sets that decide where a pattern matches, if there are such, and whether they
+// say where a match ends, too.
 pub(crate) fn prefix_of(alloc: Global, hir: &Hir) -> Result<Option<Prefix>, AllocError>
     ensures { IfOk result (λ found. IfSome found
         (λ p. IsPrefix (meaning hir.now) (items_of p.choices.items) p.has_sizes)) }

@@ -108,8 +108,8 @@ fn text_of(error: &Error) -> ArrayString<256> {
     text
 }
 
-/// The `io::Error`, as `Io`. `error_message` of `SinkError` keeps a text of any length, and takes an
-/// allocator.
+/// The `io::Error`, as `Io`. `error_message` of `SinkError` keeps a text of any length,
+/// and takes an allocator.
 impl<A: Allocator> From<Error> for SearchError<A> {
     ghost use Rattle.std.specs.Prelude.{◌≡◌};
     ghost use Rattle.std.specs.IoError.{error_kind};

@@ -118,9 +118,11 @@ pub(crate) fn match_at<F: Finder>(
 ) -> Result<Option<Match>, AllocError>
     requires start { start ≤ length haystack.now }
     requires known { F.is_known shortcut.now.regex.now }
-    ensures value { IfOk result (λ m. m ≡ regex_first_at shortcut.now.regex.now haystack.now start) }
+    ensures value { IfOk result
+        (λ m. m ≡ regex_first_at shortcut.now.regex.now haystack.now start) }
     ensures within { IfOk result (IsFrom start haystack.now) }
-    ensures avoids { IfOk result (Avoids (regex_meaning shortcut.now.regex.now).absent haystack.now) }
+    ensures avoids { IfOk result
+        (Avoids (regex_meaning shortcut.now.regex.now).absent haystack.now) }
 {
     match find_by(alloc, shortcut, cell, haystack, start, Asked::FirstMatch) {
         Ok(Some((from, end))) => Ok(Some(Match::new(from, end))),
@@ -188,7 +190,8 @@ pub(crate) fn has_match<F: Finder>(
     haystack: &[u8],
 ) -> Result<bool, AllocError>
     requires { F.is_known shortcut.now.regex.now }
-    ensures { IfOk result (λ found. found ≡ is_some (regex_first shortcut.now.regex.now haystack.now)) }
+    ensures { IfOk result
+        (λ found. found ≡ is_some (regex_first shortcut.now.regex.now haystack.now)) }
 {
     match find_by(alloc, shortcut, cell, haystack, 0, Asked::AnyMatch) {
         Ok(found) => Ok(found.is_some()),

@@ -8,8 +8,8 @@ use regex_tagged::Tagged;
 use regex_vm::{Backtracker, PikeVm};
 use std::alloc::{AllocError, Global};
 
-// What finds the groups of the matches of a program. A machine with a cell for each group in each of
-// its states is made only where the others give up, and kept for that match alone.
+// What finds the groups of the matches of a program. A machine with a cell for each group in each
+// of its states is made only where the others give up, and kept for that match alone.
 pub(crate) struct GroupFinder<'p> {
     pub(crate) program: &'p Program,
     alloc: Global,
@@ -67,8 +67,8 @@ impl<'p> GroupFinder<'p> {
         }
     }
 
-    // Writes them where the automaton gives up: by the backtracker, or if that gives up too by a machine
-    // with a cell for each group in each state.
+    // Writes them where the automaton gives up: by the backtracker, or if that gives up too by a
+    // machine with a cell for each group in each state.
     fn step_by_step(
         &mut self,
         haystack: &[u8],

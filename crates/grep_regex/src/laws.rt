@@ -14,8 +14,8 @@ pub fn matches_are_clear()
     ensures { MatchesAreClear }
 {}
 
-/// Under CRLF a match ends before the line feed that ends what is asked about, and before a carriage
-/// return that is right before that.
+/// Under CRLF a match ends before the line feed that ends what is asked about, and before a
+/// carriage return that is right before that.
 pub fn matches_end_with_lines()
     ensures { MatchesEndWithLines }
 {}

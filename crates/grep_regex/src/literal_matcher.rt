@@ -24,7 +24,8 @@ use std::alloc::AllocError;
 pub struct LiteralRegexMatcher<'r> {
     regex: &'r Regex,
     literal: LiteralMatcher<'r>,
-    ghost spelled: { ∥ IsSpelled (meaning (arc_value regex.now.shared).programs.finding.hir) literal ∥₁ },
+    ghost spelled: { ∥ IsSpelled (meaning (arc_value regex.now.shared).programs.finding.hir)
+        literal ∥₁ },
     ghost by_line: { IsTrue (is_by_line (arc_value regex.now.shared).options.line_terminator
         (meaning (arc_value regex.now.shared).programs.finding.hir)) },
     ghost strips: { (arc_value regex.now.shared).options.line_terminator ≡ None →
@@ -50,8 +51,8 @@ impl Regex {
     ghost use Rattle.grep_regex.specs.LiteralViews.{literal_regex};
     ghost use Rattle.grep_regex.specs.Views.{regex_options, regex_patterns};
 
-    /// A matcher of the expression, if it is a literal that isn't empty, has no group and no byte of
-    /// the line terminator, and isn't compiled for lines that end with CRLF.
+    /// A matcher of the expression, if it is a literal that isn't empty, has no group and no byte
+    /// of the line terminator, and isn't compiled for lines that end with CRLF.
     pub fn literal_matcher(&self) -> Option<LiteralRegexMatcher<'_>>
         ensures regex { IfSome result (λ m. literal_regex m ≡ self.now) }
         ensures groups { IfSome result

@@ -11,8 +11,8 @@ use std::alloc::{AllocError, Global};
 use std::cell::RefCell;
 
 /// The matcher of a regular expression, which it borrows: `Regex::new`, `Regex::for_lines` and
-/// `RegexMatcherBuilder` give a `Regex`, whose `matcher` gives this. What its engines write to is in
-/// a cell, so that `&self` is enough to search.
+/// `RegexMatcherBuilder` give a `Regex`, whose `matcher` gives this. What its engines write to is
+/// in a cell, so that `&self` is enough to search.
 ///
 /// The only error is being out of memory for new engines. They are made only for a call within
 /// another call of the same matcher; no contract says so.

@@ -75,8 +75,8 @@ fn read_all(alloc: Global, options: &Options, patterns: &[&str]) -> Result<Branc
     Ok(Branches { hirs, groups })
 }
 
-// The names of the groups of a text that is a pattern, by their numbers. So it fails only where memory
-// is out.
+// The names of the groups of a text that is a pattern, by their numbers. So it fails only where
+// memory is out.
 pub(crate) fn read_names(
     alloc: Global,
     options: &Options,

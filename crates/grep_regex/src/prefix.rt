@@ -1,5 +1,6 @@
 //! A search for the positions at which sets of bytes may decide that a pattern matches.
-ghost use Rattle.std.specs.Prelude.{◌≡◌, ◌≤◌, ◌<◌, ◌+◌, ℕ, bit_or, length, slice_index, All, IfOk, IsTrue};
+ghost use Rattle.std.specs.Prelude.{◌≡◌, ◌≤◌, ◌<◌, ◌+◌, ℕ};
+ghost use Rattle.std.specs.Prelude.{bit_or, length, slice_index, All, IfOk, IsTrue};
 ghost use Rattle.regex_literal.specs.Lanes.{Covers};
 ghost use Rattle.regex_literal.specs.Nibbles.{buckets_of};
 ghost use Rattle.grep_regex.specs.Buckets.{AreAtLeast, AreInBuckets, AreMarked, MayFollow};
@@ -193,8 +194,9 @@ impl Prefix {
         self.skip_with(&folded, haystack, 3, start)
     }
 
-    // The same by what looks for the sets that are tables. The bytes before these are only looked at
-    // where the search begins: up to where it ends they are among those that it looks at.
+    // A position up to which a target of tables or of folds decides it. The bytes before its sets
+    // are only looked at where the search begins: up to where it ends they are among those that the
+    // target looks at.
     #[inline(always)]
     fn skip_with<T: Target>(&self, rare: &T, haystack: &[u8], size: usize, start: usize) -> usize
         requires haystack { T.haystack rare.now ≡ haystack.now }

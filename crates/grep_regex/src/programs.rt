@@ -36,8 +36,8 @@ impl Programs {
     ghost use Rattle.grep_regex.specs.Programs.{capturing_program};
     ghost use Rattle.grep_regex.specs.SameEnds.{HasSameSpans};
 
-    // What finds the matches of a program and their groups. A searcher of a program with many groups
-    // and states would ask for too much room, so matches are found without the groups then.
+    // What finds the matches of a program and their groups. A searcher of a program with many
+    // groups and states would ask for too much room, so matches are found without the groups then.
     pub(crate) fn new(alloc: Global, program: Program, size_limit: usize) -> Result<Programs, Error>
         requires { table_bytes program.dfa.nfa ≤ size_limit + 24 }
         ensures capturing { IfOk result (λ programs. capturing_program programs ≡ program) }

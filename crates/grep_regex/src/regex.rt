@@ -184,9 +184,9 @@ impl Regex {
         self.shared.options
     }
 
-    /// The names of the groups of its pattern, by their numbers; the first is that of the whole match,
-    /// which has none. Of several patterns no group has a name. The text is read again, and the only
-    /// error is being out of memory.
+    /// The names of the groups of its pattern, by their numbers; the first is that of the whole
+    /// match, which has none. Of several patterns no group has a name. The text is read again, and
+    /// the only error is being out of memory.
     pub fn group_names(&self, alloc: Global) -> Result<Vec<Option<String>>, AllocError>
         ensures { IfOk result (λ names. map (option_map string_bytes) names.items
             ≡ group_names (regex_options self.now) (regex_patterns self.now)) }

@@ -25,8 +25,8 @@ pub(crate) struct Shortcut<'r> {
     ghost spelled: { ∥ IfSome literal
         (IsSpelled (meaning (arc_value regex.now.shared).programs.finding.hir)) ∥₁ },
     ghost is_prefix: { ∥ IfSome prefix
-        (λ p. IsPrefix (meaning (arc_value regex.now.shared).programs.finding.hir) (items_of p.choices.items)
-        p.has_sizes) ∥₁ },
+        (λ p. IsPrefix (meaning (arc_value regex.now.shared).programs.finding.hir)
+        (items_of p.choices.items) p.has_sizes) ∥₁ },
 }
 
 // Written out, so that a caller's proof sees one call.

@@ -1,6 +1,7 @@
 -- Templates: what is written in place of a match, by its groups.
-use Rattle.std.specs.Prelude.{◌≡◌, ℕ, zero, suc, ◌+◌, ◌-◌, ◌&&◌, ◌==◌, if◌then◌else◌, nat_lt, List, [], ◌∷◌, ◌++◌}
-use Rattle.std.specs.Prelude.{drop, take, slice_get, slice_index, slice_range, Option, None, Some, Vec}
+use Rattle.std.specs.Prelude.{◌≡◌, ℕ, zero, suc, ◌+◌, ◌-◌, ◌&&◌, ◌==◌, if◌then◌else◌}
+use Rattle.std.specs.Prelude.{nat_lt, List, [], ◌∷◌, ◌++◌, drop, take, slice_get, slice_index}
+use Rattle.std.specs.Prelude.{slice_range, Option, None, Some, Vec}
 use Rattle.std.specs.Global.{Global}
 use Rattle.std.specs.List.{flat_map, prefix_len}
 use Rattle.std.specs.Option.{option_and_then, option_map, option_map_or}
@@ -19,8 +20,8 @@ name_at rest =
     then Some (take braced (drop 1 rest), braced + 2) else None)
     else (if nat_lt 0 bare then Some (take bare rest, bare) else None)
 
--- a reference at the start of a template, and how many bytes it takes: two dollar signs, which have no name, or a
--- dollar sign and a name
+-- a reference at the start of a template, and how many bytes it takes: two dollar signs, which have
+-- no name, or a dollar sign and a name
 unfoldable pub reference_at : List ℕ → Option (Option (List ℕ) × ℕ)
 reference_at rest =
     if slice_index rest 0 == 36
@@ -45,8 +46,8 @@ module _ (names : List (Option (List ℕ))) (text_of : ℕ → List ℕ) where
   place_text byte None after = byte ∷ after 0
   place_text byte (Some reference) after = reference_text reference.0 ++ after (reference.1 - 1)
 
-  -- what a template writes, once so many bytes are passed over: each reference what it stands for, and any other byte
-  -- itself
+  -- what a template writes, once so many bytes are passed over: each reference what it stands for,
+  -- and any other byte itself
   unfoldable pub written_after : List ℕ → ℕ → List ℕ
   written_after [] passed = []
   written_after (b ∷ rest) (suc passed) = written_after rest passed
@@ -73,14 +74,17 @@ AreReadFrom names template pieces =
 abbrev pub template_text : Template → (ℕ → List ℕ) → List ℕ
 template_text template text_of = pieces_text text_of template.pieces.items
 
--- the text of a group of a match in a haystack: nothing, if it takes no part or there is none with this number
+-- the text of a group of a match in a haystack: nothing, if it takes no part
+-- or there is none with this number
 abbrev pub group_text : List ℕ → List (Option (ℕ × ℕ)) → ℕ → List ℕ
 group_text haystack groups group =
-    option_map_or (λ g. slice_range haystack g.0 g.1) (option_and_then (λ found. found) (slice_get groups group)) []
+    option_map_or (λ g. slice_range haystack g.0 g.1)
+    (option_and_then (λ found. found) (slice_get groups group)) []
 
 -- one more piece, of these bytes
 abbrev pub ArePushedText : List ℕ → List Piece → List Piece → Type 0
-ArePushedText text old new = (bytes : Vec ℕ Global) × (bytes.items ≡ text) × (new ≡ old ++ Text bytes ∷ [])
+ArePushedText text old new =
+    (bytes : Vec ℕ Global) × (bytes.items ≡ text) × (new ≡ old ++ Text bytes ∷ [])
 
 -- more pieces, for a reference
 abbrev pub ArePushed : List (Option (List ℕ)) → Option (List ℕ) → List Piece → List Piece → Type 0

@@ -8,18 +8,18 @@ use std::alloc::AllocError;
 /// A matcher that also finds the groups of a match: the parts of it that a part of the pattern
 /// matches, by their numbers. The first is the match itself.
 pub trait CapturesAt: FindAt {
-    /// The groups of the first match of a haystack that starts at a position or after it, each if it
-    /// takes part in the match; none without a match.
+    /// The groups of the first match of a haystack that starts at a position or after it, each if
+    /// it takes part in the match; none without a match.
     ghost groups_at: { Self → List ℕ → ℕ → List (Option (ℕ × ℕ)) };
 
     /// There are none from a position past the haystack.
     ghost none_past: { (m : Self) (haystack : List ℕ) (start : ℕ) → length haystack < start
         → groups_at m haystack start ≡ [] };
 
-    /// The first match of a haystack that starts at `start` or after it, as `find_at` gives it, with
-    /// its groups in `groups`, in place of what was there: the first is the match, and each lies in
-    /// the haystack. Without a match there are none. The only error is being out of memory. The
-    /// caller ensures that `start` is at most the haystack's length.
+    /// The first match of a haystack that starts at `start` or after it, as `find_at` gives it,
+    /// with its groups in `groups`, in place of what was there: the first is the match, and each
+    /// lies in the haystack. Without a match there are none. The only error is being out of memory.
+    /// The caller ensures that `start` is at most the haystack's length.
     fn captures_at(
         &self,
         haystack: &[u8],

@@ -1,12 +1,13 @@
 //! Templates of what is written in place of a match.
-ghost use Rattle.std.specs.Prelude.{◌≡◌, ◌+◌, ◌-◌, ◌<◌, ◌≤◌, ◌==◌, ◌++◌, ◌∷◌, [], length, drop, slice_index};
-ghost use Rattle.std.specs.Prelude.{◌↔◌, IfOk, IfSome, IsTrue, OnOk, Some, option_map, string_bytes};
+ghost use Rattle.std.specs.Prelude.{◌≡◌, ◌+◌, ◌-◌, ◌<◌, ◌≤◌, ◌==◌, ◌++◌, ◌∷◌, []};
+ghost use Rattle.std.specs.Prelude.{length, drop, slice_index, ◌↔◌, IfOk, IfSome, IsTrue, OnOk};
+ghost use Rattle.std.specs.Prelude.{Some, option_map, string_bytes};
 ghost use Rattle.std.specs.List.{prefix_len};
 ghost use Rattle.regex.specs.Names.{IsIndexOf, names_of};
 ghost use Rattle.regex.specs.Templates.{group_called, is_name_byte};
 ghost use Rattle.grep_replace.specs.Groups.{LieWithin};
-ghost use Rattle.grep_replace.specs.Templates.{ArePushed, ArePushedText, AreReadFrom, group_text, name_at, piece_text};
-ghost use Rattle.grep_replace.specs.Templates.{reference_at, template_text};
+ghost use Rattle.grep_replace.specs.Templates.{ArePushed, ArePushedText, AreReadFrom, group_text};
+ghost use Rattle.grep_replace.specs.Templates.{name_at, piece_text, reference_at, template_text};
 
 use grep_matcher::Match;
 use std::alloc::{AllocError, Global};

@@ -1,8 +1,11 @@
 -- The byte of a binary detection, by its kind.
 use Rattle.std.specs.Prelude.{ℕ, Option, Some, None}
 use Rattle.grep_report.specs.declared.binary_detection.BinaryDetection.{BinaryDetection}
-use Rattle.grep_report.specs.declared.binary_detection.BinaryDetection.TheVariants.{None as no_detection}
-use Rattle.grep_report.specs.declared.binary_detection.BinaryDetection.TheVariants.{Quit, Convert}
+use Rattle.grep_report.specs.declared.binary_detection.BinaryDetection.TheVariants.{
+  None as no_detection,
+  Quit,
+  Convert,
+}
 
 -- at which a search ends
 abbrev pub quit_byte_of : BinaryDetection → Option ℕ

@@ -64,7 +64,9 @@ impl BinaryDetection {
 /// No byte marks an input as binary.
 impl Default for BinaryDetection {
     ghost use Rattle.std.specs.Prelude.{◌≡◌};
-    ghost use Rattle.grep_report.specs.declared.binary_detection.BinaryDetection.TheVariants.{None as no_detection};
+    ghost use Rattle.grep_report.specs.declared.binary_detection.BinaryDetection.TheVariants.{
+      None as no_detection,
+    };
 
     ghost is_default = { λ detection. detection ≡ no_detection };
 

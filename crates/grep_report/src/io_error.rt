@@ -6,8 +6,8 @@ use std::alloc::Allocator;
 use std::fmt::Write;
 use std::io;
 
-/// Out of memory is an error of the kind `OutOfMemory`. Any other one is of the kind `Other` and has
-/// the text; std shortens one of over 80 bytes, and ends it in three dots.
+/// Out of memory is an error of the kind `OutOfMemory`. Any other one is of the kind `Other` and
+/// has the text; std shortens one of over 80 bytes, and ends it in three dots.
 impl From<ConfigError> for io::Error {
     ghost use Rattle.std.specs.Prelude.{◌≡◌};
     ghost use Rattle.std.specs.IoError.{error_kind};

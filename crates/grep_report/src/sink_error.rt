@@ -97,8 +97,8 @@ impl<A: Allocator + Copy> SinkError<A> for SearchError<A> {
 
 /// An `io::Error` is kept as it is. Of a message, and of a configuration that no search can run
 /// with, the error is of the kind `Other` and has the text; std shortens one of over 80 bytes, and
-/// ends it in three dots. It is of the kind `OutOfMemory` if there is no memory for the text, and of
-/// `ConfigError::Memory`.
+/// ends it in three dots. It is of the kind `OutOfMemory` if there is no memory for the text, and
+/// of `ConfigError::Memory`.
 impl<A: Allocator + Copy> SinkError<A> for io::Error {
     ghost use Rattle.grep_report.specs.SearchErrors.{HasText, IsConfigError};
 

@@ -18,9 +18,9 @@ impl Config {
     /// match: under inversion lines that are known not to match; else the line that is known to
     /// match, and those after it that do, if the matcher may be asked about many lines. They have
     /// 16 KiB at most. `None` if there are none, or the first is longer. An error of the matcher is
-    /// kept in `failure`. The caller ensures that a line of the window begins at `start`, that these
-    /// are the lines that this search reports, and that these questions may be asked about the lines
-    /// after a chosen one.
+    /// kept in `failure`. The caller ensures that a line of the window begins at `start`, that
+    /// these are the lines that this search reports, and that these questions may be asked about
+    /// the lines after a chosen one.
     #[inline(always)]
     pub fn chosen_lines<M: Matcher>(
         &self,
@@ -41,7 +41,8 @@ impl Config {
         ensures chosen { IfSome result (AreChosen self.now (M.facts matcher.now) window.now start
             ahead.now walk.now) }
         ensures unasked { questions ≡ OneLine → failure.new ≡ None }
-        ensures failed { IfSome failure.new (λ error. MayAskOn self.now (M.facts matcher.now).meaning
+        ensures failed { IfSome failure.new (λ error.
+            MayAskOn self.now (M.facts matcher.now).meaning
             × IsSomeAnd result (λ lines. HasFailed (M.facts matcher.now) window.now lines error)) }
     {
         if !self.chooses_alone(reporting, walk) {
@@ -84,8 +85,8 @@ impl Config {
         }
     }
 
-    /// The walk after lines that are chosen from `start` on. The caller ensures that each has a byte,
-    /// and that the offset of their end is below 2^64.
+    /// The walk after lines that are chosen from `start` on. The caller ensures that each has a
+    /// byte, and that the offset of their end is below 2^64.
     pub fn after_chosen(&self, walk: &Walk, start: usize, lines: &LineRun) -> Walk
         requires some { start ≤ lines.now.end }
         requires counted { lines.now.count ≤ lines.now.end - start }

@@ -1,7 +1,7 @@
-//! The steps of a walk over lines, for grep_searcher: which line comes next, what is known of the lines
-//! ahead, which of them are chosen, which are reported near a match, and which lines the matches of
-//! a search across lines touch. No step calls a sink: the loops that report what the steps find are
-//! in grep_searcher.
+//! The steps of a walk over lines, for grep_searcher: which line comes next, what is known of the
+//! lines ahead, which of them are chosen, which are reported near a match, and which lines the
+//! matches of a search across lines touch. No step calls a sink: the loops that report what the
+//! steps find are in grep_searcher.
 //!
 //! Each step is a method of `Config`, the settings. `specs/` says what a step knows of the lines
 //! before it and after it; no public contract of grep_searcher cites it.

@@ -1,6 +1,6 @@
 //! Lines of a window one after another, all of which match, or none of them.
-ghost use Rattle.std.specs.Prelude.{◌≡◌, ◌⊎◌, ◌≤◌, ◌<◌, ◌+◌, ◌-◌, ℕ, true, false, length, None, Some};
-ghost use Rattle.std.specs.Prelude.{IfSome};
+ghost use Rattle.std.specs.Prelude.{◌≡◌, ◌⊎◌, ◌≤◌, ◌<◌, ◌+◌, ◌-◌, ℕ, true, false, length, None};
+ghost use Rattle.std.specs.Prelude.{Some, IfSome};
 ghost use Rattle.grep_definitions.specs.Plans.{AsksAhead};
 ghost use Rattle.grep_lines.specs.Positions.{IsLineStart};
 ghost use Rattle.grep_matcher.specs.Lines.{byte_of};
@@ -13,8 +13,8 @@ use crate::look_ahead::Ahead;
 use grep_lines::{line_count_in, line_of};
 use grep_matcher::Matcher;
 
-/// How many bytes lines that are chosen in a row have at most: what a sink makes of them may take as
-/// much memory.
+/// How many bytes lines that are chosen in a row have at most: what a sink makes of them may take
+/// as much memory.
 pub(crate) const ROOM: usize = 16 * 1024;
 
 /// Lines one after another, all of which match, or none of them, by positions in a window.

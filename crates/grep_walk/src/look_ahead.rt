@@ -1,7 +1,8 @@
 //! What a walk knows of the lines from its line on: what a matcher found in many lines at once, and
 //! which of them the walk skips.
 ghost use Rattle.std.specs.Prelude.{◌≡◌, ◌≤◌, ◌<◌, ◌+◌, ◌-◌, ◌^◌, ℕ, true, if◌then◌else◌, length};
-ghost use Rattle.std.specs.Prelude.{drop, Err, IfOk, IfErr, IfSome, IfNone, None, false, slice_range};
+ghost use Rattle.std.specs.Prelude.{drop, Err, IfOk, IfErr, IfSome};
+ghost use Rattle.std.specs.Prelude.{IfNone, None, false, slice_range};
 ghost use Rattle.grep_lines.specs.Positions.{IsLine, IsLineStart};
 ghost use Rattle.grep_matcher.specs.Lines.{lines, byte_of};
 ghost use Rattle.grep_matcher.specs.Lawful.{IsInside, IsLawfulResult};
@@ -105,9 +106,9 @@ impl Config {
         }
     }
 
-    /// What may be asked about the lines after a chosen one, by what this matcher may be asked. Each
-    /// of them is asked about alone if those that don't match are chosen, or if the next line that
-    /// isn't chosen ends the search.
+    /// What may be asked about the lines after a chosen one, by what this matcher may be asked.
+    /// Each of them is asked about alone if those that don't match are chosen, or if the next line
+    /// that isn't chosen ends the search.
     pub fn questions_after_chosen(&self, questions: Questions) -> Questions
         ensures { (meaning : Meaning) → AreQuestions self.now meaning questions
             → AreAllowed self.now meaning result }
@@ -119,8 +120,8 @@ impl Config {
         }
     }
 
-    /// Which lines a search by line reports: what its steps ask for, so that they look at the settings
-    /// once.
+    /// Which lines a search by line reports: what its steps ask for,
+    /// so that they look at the settings once.
     pub fn reporting(&self) -> Reporting
         ensures { IsReporting self.now result }
     {

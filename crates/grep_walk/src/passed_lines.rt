@@ -48,8 +48,8 @@ impl Config {
 }
 
 impl Walk {
-    /// The walk after lines that it passes from `start` on. The caller ensures that each has a byte,
-    /// and that the offset of their end is below 2^64.
+    /// The walk after lines that it passes from `start` on. The caller ensures that each has a
+    /// byte, and that the offset of their end is below 2^64.
     pub fn after_passed(&self, start: usize, lines: &LineRun) -> Walk
         requires some { start ≤ lines.now.end }
         requires counted { lines.now.count ≤ lines.now.end - start }

@@ -6,8 +6,8 @@ use Rattle.grep_searcher.specs.SearchLaws.{is_match, match_calls}
 use Rattle.grep_printer.specs.BareTexts.{bare_texts}
 
 -- the text of some calls, in order: each line of a match after its number and a colon, any other
--- line after its number and a dash, two dashes for a break, and at the end of each a line feed, which
--- is added if there is none
+-- line after its number and a dash, two dashes for a break, and at the end of each a line feed,
+-- which is added if there is none
 abbrev pub text : List Planned → List ℕ
 text calls = bare_texts 10 calls
 

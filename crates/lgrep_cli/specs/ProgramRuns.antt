@@ -184,8 +184,8 @@ module _ {F R W : Type 0} (opens : List ℕ → Result F Error → Type 0)
       IsProgramRun remaining read_step write_step contents options input writer result input'
       writer'
   IsRunAt (Some path) options input writer result input' writer' =
-      IsPathRun opens file_remaining file_step write_step contents (string_bytes path) options writer
-      result writer'
+      IsPathRun opens file_remaining file_step write_step contents (string_bytes path) options
+      writer result writer'
       × (input' ≡ input)
 
 module _ {F R W E : Type 0} (opens : List ℕ → Result F Error → Type 0)

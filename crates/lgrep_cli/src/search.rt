@@ -25,8 +25,8 @@ use std::path::{AsPath, Path};
 /// the search needs. With `multi_line` and a literal that contains a line feed the search is across
 /// lines: then the reader is read to its end first.
 ///
-/// The text is kept until there are 64 KiB of it, and written then and at the end; where there is no
-/// memory to keep it, it is written line by line. So the writer needs no buffer of its own.
+/// The text is kept until there are 64 KiB of it, and written then and at the end; where there is
+/// no memory to keep it, it is written line by line. So the writer needs no buffer of its own.
 ///
 /// With `count` nothing is written for what is found: once the search is done, the number of match
 /// reports and a line feed are.

@@ -81,7 +81,9 @@ pub enum TypeError<'t> {
 
 impl<'t> From<AllocError> for TypeError<'t> {
     ghost use Rattle.std.specs.Prelude.{◌≡◌};
-    ghost use Rattle.linegrep_files.specs.declared.type_definitions.TypeError.TheVariants.{OutOfMemory};
+    ghost use Rattle.linegrep_files.specs.declared.type_definitions.TypeError.TheVariants.{
+      OutOfMemory,
+    };
 
     ghost from_gives = { λ _ e. e ≡ OutOfMemory };
 
@@ -92,7 +94,9 @@ impl<'t> From<AllocError> for TypeError<'t> {
 
 impl<'t, T: Drop> From<AllocFailed<T>> for TypeError<'t> {
     ghost use Rattle.std.specs.Prelude.{◌≡◌};
-    ghost use Rattle.linegrep_files.specs.declared.type_definitions.TypeError.TheVariants.{OutOfMemory};
+    ghost use Rattle.linegrep_files.specs.declared.type_definitions.TypeError.TheVariants.{
+      OutOfMemory,
+    };
 
     ghost from_gives = { λ _ e. e ≡ OutOfMemory };
 

@@ -1,6 +1,6 @@
 -- What is said of the options of the table, and how they are spelled.
-use Rattle.std.specs.Prelude.{ℕ, Bool, not, ◌&&◌, ◌==◌, if◌then◌else◌, List, [], ◌++◌, codes, flat_map}
-use Rattle.std.specs.Prelude.{length, map, slice_get, Option, None, Some, unwrap_or}
+use Rattle.std.specs.Prelude.{ℕ, Bool, not, ◌&&◌, ◌==◌, if◌then◌else◌, List, [], ◌++◌, codes}
+use Rattle.std.specs.Prelude.{flat_map, length, map, slice_get, Option, None, Some, unwrap_or}
 use Rattle.std.specs.List.{range_with_len}
 use Rattle.linegrep_options.specs.Rows.{all_headings, all_letters, all_names, all_rows}
 use Rattle.linegrep_options.specs.Rows.{all_summaries, words_of}

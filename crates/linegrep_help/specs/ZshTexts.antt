@@ -18,7 +18,8 @@ zsh_value value = framed (codes ":") (value_name value) (codes ":" ++ zsh_action
 
 -- what an option does, and what comes after it
 abbrev pub zsh_said : Said → List ℕ
-zsh_said one = framed (codes "[") one.summary (codes "]") ++ (zsh_value one.value ++ codes "\" \\\n")
+zsh_said one =
+    framed (codes "[") one.summary (codes "]") ++ (zsh_value one.value ++ codes "\" \\\n")
 
 -- a spelling of an option, which may be given several times. A text after it says that a value may
 -- be in the same word

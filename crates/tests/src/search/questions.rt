@@ -30,7 +30,8 @@ struct Row {
     taking: Taking,
     offers: u64,
     asked: &'static [&'static [u8]],
-    // how many of the last questions are about lines to which the search doesn't come: they may fail
+    // how many of the last questions are about lines to which the search doesn't come:
+    // they may fail
     unheard: usize,
 }
 
@@ -54,8 +55,8 @@ const AHEAD: Row = Row {
 };
 
 // One question for each line that matches, and none past a limit or a call that returned false. In
-// the context after the limit, and after a chosen line if the search stops, each line is asked about
-// alone. In single bytes each line is a window of its own.
+// the context after the limit, and after a chosen line if the search stops, each line is asked
+// about alone. In single bytes each line is a window of its own.
 const AHEAD_ROWS: &[Row] = &[
     AHEAD,
     Row {

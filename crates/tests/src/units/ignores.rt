@@ -2,8 +2,8 @@
 use grep_ignore::Rules;
 use std::alloc::{AllocError, Global};
 
-// The lines of a file, a path, which is that of a folder if a slash is at its end, and whether it is
-// ignored.
+// The lines of a file, a path, which is that of a folder if a slash is at its end,
+// and whether it is ignored.
 type Row = (&'static [u8], &'static [u8], bool);
 
 const WILDCARDS: &[Row] = &[
