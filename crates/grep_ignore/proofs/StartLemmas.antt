@@ -1,12 +1,14 @@
 -- Numbers of texts by their first bytes, and texts that names of paths begin with.
-use Rattle.std.proofs.Common.{◌≡◌, ℕ, ◌+◌, ◌-◌, ◌<◌, ◌≤◌, ◌==◌, ◌||◌, ◌∙◌, Bool, true, false, List, [], ◌∷◌, ◌++◌, ap, refl}
+use Rattle.std.proofs.Common.{◌≡◌, ℕ, ◌+◌, ◌-◌, ◌<◌, ◌≤◌, ◌==◌, ◌||◌, ◌∙◌}
+use Rattle.std.proofs.Common.{Bool, true, false, List, [], ◌∷◌, ◌++◌, ap, refl}
 use Rattle.std.proofs.Common.{subst, sym, inl, inr, arith, length, take, drop, get_or, length-append, append_assoc}
 use Rattle.std.specs.Prelude.{◌≢◌, ◌⊎◌}
 use Rattle.std.proofs.Common.{length-drop}
 use Rattle.std.proofs.Math.Seq.{drop-append_seam, get_or-append_seam}
 use Rattle.std.proofs.lemmas.Bool.{cases_eq, eq-eqb}
 use Rattle.std.proofs.lemmas.List.{get_or-drop, get_or_append_left, take_more}
-use Rattle.grep_ignore.specs.Endings.{AreNumbered, EndsIn, HasStart, IsNumberFor, IsNumberIn, begins_at, mixed, number_after, number_of}
+use Rattle.grep_ignore.specs.Endings.{AreNumbered, EndsIn, HasStart, IsNumberFor}
+use Rattle.grep_ignore.specs.Endings.{IsNumberIn, begins_at, mixed, number_after, number_of}
 
 -- the number of a text with a byte after it
 pub number-more : (number : ℕ) (text : List ℕ) (byte : ℕ)

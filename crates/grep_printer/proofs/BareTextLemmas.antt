@@ -15,9 +15,11 @@ use Rattle.grep_printer.proofs.SomeTextLemmas.{text-after, text-some}
 use Rattle.grep_printer.specs.BareTexts.{bare_text, is_bare, is_nothing}
 use Rattle.grep_printer.specs.ColoredTexts.{path_color}
 use Rattle.grep_printer.specs.Formats.{Scene, is_text}
-use Rattle.grep_printer.specs.LineTexts.{break_text, end_byte, is_plain, next_number, number_field, path_field, plain_line, plain_lines, separator_text}
+use Rattle.grep_printer.specs.LineTexts.{break_text, end_byte, is_plain, next_number, number_field}
+use Rattle.grep_printer.specs.LineTexts.{path_field, plain_line, plain_lines, separator_text}
 use Rattle.grep_printer.specs.PartTexts.{writes_parts}
-use Rattle.grep_printer.specs.StandardTexts.{call_text, goes_on, is_hidden, layout_of, message_text, report_text, text_before}
+use Rattle.grep_printer.specs.StandardTexts.{call_text, goes_on, is_hidden, layout_of}
+use Rattle.grep_printer.specs.StandardTexts.{message_text, report_text, text_before}
 use Rattle.grep_printer.specs.declared.config.Config.{Config}
 use Rattle.grep_printer.specs.declared.config.SearchSeparator.{SearchSeparator}
 use Rattle.grep_printer.specs.declared.config.SearchSeparator.TheVariants.{Blank, Groups, Nothing}

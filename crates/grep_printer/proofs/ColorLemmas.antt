@@ -93,7 +93,8 @@ in-after position at [] less = refl
 in-after position at (part ∷ later) less =
     go (nat_lt part.0 position && nat_le part.1 position) refl (in-after position at later less)
   where
-    go : (passed : Bool) → (nat_lt part.0 position && nat_le part.1 position) ≡ passed → is_in (parts_after position later) at ≡ is_in later at
+    go : (passed : Bool) → (nat_lt part.0 position && nat_le part.1 position) ≡ passed
+        → is_in (parts_after position later) at ≡ is_in later at
         → is_in (if passed then parts_after position later else part ∷ later) at ≡ is_in (part ∷ later) at
     go true passed others =
         let ends = (and_parts (nat_lt part.0 position) (nat_le part.1 position) passed).1 in
@@ -191,7 +192,8 @@ module _ (color back : List ℕ) (end : ℕ) (whole : List ℕ) where
       → IsPainting text rest before position left → rest ≡ part ∷ later → part.0 < end
       → start ≡ max part.0 position → stop ≡ max (min part.1 end) start
       → left ≡ gap ++ (found ++ after) → position + length gap ≡ start → start + length found ≡ stop
-      → new ≡ (text ++ run_text color back before false gap) ++ run_text color back (after_run before false gap) true found
+      → new ≡ (text ++ run_text color back before false gap)
+      ++ run_text color back (after_run before false gap) true found
       → IsPainting new later (after_run (after_run before false gap) true found) stop after
   painting-more text rest before position left part later start stop gap found after new painting is inside starts
       stops split gap_end found_end pushed =

@@ -5,8 +5,8 @@ use Rattle.std.proofs.lemmas.Bool.Decides.{nat_tests}
 use Rattle.std.proofs.lemmas.List.Elements.{All-nil, All-cons}
 use Rattle.std.specs.Option.{option_map_or}
 use Rattle.std.specs.Prelude.{All, if◌then◌else◌}
-use Rattle.grep_printer.specs.MatchedParts.{AreInOrder, LiesFrom, found_from, is_passed, parts_from, parts_in, position_after}
-use Rattle.grep_printer.specs.MatchedParts.{with_part}
+use Rattle.grep_printer.specs.MatchedParts.{AreInOrder, LiesFrom, found_from, is_passed, parts_from}
+use Rattle.grep_printer.specs.MatchedParts.{parts_in, position_after, with_part}
 
 -- where the last of some parts ends, or a position if there is none
 abbrev pub last_end : ℕ → List (ℕ × ℕ) → ℕ

@@ -12,8 +12,8 @@ use Rattle.grep_printer.specs.JsonPieces.{last_tokens, replacement_tokens}
 use Rattle.grep_printer.specs.Pushes.{AddsTokens}
 use Rattle.grep_printer.specs.declared.json_text.JsonText.{JsonText}
 
--- The text of some tokens and a line feed are added to a pending text that is moved into a text of JSON and back: of what
--- is moved back the first bytes are those before the text at hand.
+-- The text of some tokens and a line feed are added to a pending text that is moved into a text of
+-- JSON and back: of what is moved back the first bytes are those before the text at hand.
 pub line-added : (old new : PendingText) (first last : JsonText) (start : ℕ) (tokens : List Token)
     → start ≡ length old.before → first.out.before ≡ old.before ++ old.text → first.out.tokens ≡ []
     → first.has_failed ≡ old.has_failed → AddsTokens first last tokens

@@ -17,7 +17,8 @@ number-first : (number : Option ℕ) → IsWordNumber number → number_after nu
 number-first None small = refl
 number-first (Some n) small = ap Some (omega (arith, small))
 
-number-more : (number : Option ℕ) (count : ℕ) → next_number (number_after number count) ≡ number_after number (count + 1)
+number-more : (number : Option ℕ) (count : ℕ)
+    → next_number (number_after number count) ≡ number_after number (count + 1)
 number-more None count = refl
 number-more (Some n) count = ap Some (omega arith)
 

@@ -7,7 +7,8 @@ use Rattle.std.proofs.lemmas.List.{append-nil}
 use Rattle.std.proofs.lemmas.List.Sums.{sum_by-cons}
 use Rattle.std.specs.List.{count_by, flat_map}
 use Rattle.std.specs.Option.{is_none}
-use Rattle.std.specs.Prelude.{Bool, false, true, ◌||◌, if◌then◌else◌, cond, max, min, nat_lt, not, Option, None, Some, slice_range}
+use Rattle.std.specs.Prelude.{Bool, false, true, ◌||◌, if◌then◌else◌}
+use Rattle.std.specs.Prelude.{cond, max, min, nat_lt, not, Option, None, Some, slice_range}
 use Rattle.grep_matcher.proofs.LineLemmas.{lines-end, lines-inner}
 use Rattle.grep_matcher.specs.Lines.{lines, onto_first}
 use Rattle.grep_searcher.specs.Lines.{strip}
@@ -15,8 +16,8 @@ use Rattle.grep_printer.specs.MatchedParts.{AreInOrder, ends_after}
 use Rattle.grep_printer.specs.ColoredTexts.{line_color, matched_color, path_color}
 use Rattle.grep_printer.specs.Hyperlinks.{prefix_link, shown_path}
 use Rattle.grep_printer.specs.LineTexts.{end_byte, is_plain, line_text, lines_text, mark_after, mark_byte, missing_end}
-use Rattle.grep_printer.specs.LineTexts.{next_number, number_field, place_after, text_field, plain_line, plain_lines, plain_part}
-use Rattle.grep_printer.specs.LineTexts.{shown_line}
+use Rattle.grep_printer.specs.LineTexts.{next_number, number_field, place_after, text_field}
+use Rattle.grep_printer.specs.LineTexts.{plain_line, plain_lines, plain_part, shown_line}
 use Rattle.grep_printer.specs.Reports.{HasPlainParts, call_of, report_place, reporting_call, surroundings_of}
 use Rattle.grep_printer.specs.StandardTexts.{report_text}
 use Rattle.grep_printer.specs.PartTexts.{across_text, clipped_text, is_in_span, line_span, part_place, writes_parts}

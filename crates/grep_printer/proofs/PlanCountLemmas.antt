@@ -17,9 +17,11 @@ use Rattle.grep_printer.proofs.SomeTextLemmas.{text-after, text-ended}
 use Rattle.grep_printer.specs.Formats.{Printed, PrintedCall, Scene, is_text, printed_with}
 use Rattle.grep_printer.specs.Hyperlinks.{shown_path}
 use Rattle.grep_printer.specs.JsonMessages.{begin_json, json_line}
-use Rattle.grep_printer.specs.JsonTexts.{is_opened, json_progress, json_rules, json_text, new_json_format, new_json_progress}
+use Rattle.grep_printer.specs.JsonTexts.{is_opened, json_progress, json_rules}
+use Rattle.grep_printer.specs.JsonTexts.{json_text, new_json_format, new_json_progress}
 use Rattle.grep_printer.specs.JsonTexts.{opening_line, with_end, with_match, with_text}
-use Rattle.grep_printer.specs.PlanCounts.{JsonCounts, SummariesCount, is_inner, json_counts, line_count_of, matched, part_count_of}
+use Rattle.grep_printer.specs.PlanCounts.{JsonCounts, SummariesCount, is_inner, json_counts}
+use Rattle.grep_printer.specs.PlanCounts.{line_count_of, matched, part_count_of}
 use Rattle.grep_printer.specs.PlanCounts.{summary_counts, times_counted}
 use Rattle.grep_printer.specs.StatsSums.{capped, capped_sum}
 use Rattle.grep_printer.specs.SummaryTexts.{counts_after, summary_rules, summary_text}

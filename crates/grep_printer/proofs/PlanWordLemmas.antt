@@ -1,6 +1,7 @@
 -- What the calls of a plan report are numbers of 64 bits and bytes, if the searched bytes are so few.
 use Rattle.std.proofs.Common.{◌∙◌, ℕ, zero, suc, ◌+◌, ◌-◌, ◌<◌, ◌≤◌, ◌^◌, ◌==◌, List, [], ◌∷◌}
-use Rattle.std.proofs.Common.{Bool, true, false, Option, None, Some, arith, count_by, drop, inl, inr, length, length-drop, subst, sym, take}
+use Rattle.std.proofs.Common.{Bool, true, false, Option, None, Some, arith, count_by}
+use Rattle.std.proofs.Common.{drop, inl, inr, length, length-drop, subst, sym, take}
 use Rattle.std.proofs.lemmas.Bool.{cases_lt}
 use Rattle.std.proofs.lemmas.List.{get_or-drop, get_or-take, get_or_past, length-take}
 use Rattle.std.proofs.lemmas.List.Elements.{All-append, All-cons, All-drop, All-map, All-nil, All-take}

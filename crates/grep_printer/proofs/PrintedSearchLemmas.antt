@@ -1,5 +1,6 @@
 -- A search of a source with the sink of a printer has written the texts of its calls.
-use Rattle.std.proofs.Common.{◌≡◌, ℕ, Bool, true, false, List, Option, None, Some, Result, Ok, Err, length, refl, subst, sym, inl, inr}
+use Rattle.std.proofs.Common.{◌≡◌, ℕ, Bool, true, false, List, Option, None, Some}
+use Rattle.std.proofs.Common.{Result, Ok, Err, length, refl, subst, sym, inl, inr}
 use Rattle.std.specs.Global.{Global}
 use Rattle.std.specs.Prelude.{OnOk}
 use Rattle.std.specs.declared.io.Error.{Error}
@@ -12,17 +13,20 @@ use Rattle.grep_searcher.specs.Meanings.{MatcherFacts}
 use Rattle.grep_searcher.specs.Plans.{Call, IsAskedWith, IsRun, Plan, Planned, SearcherState, Settings, all_true}
 use Rattle.grep_searcher.specs.Plans.{finish_after, is_across, refusal_of}
 use Rattle.grep_searcher.specs.Plans.{search_plan}
-use Rattle.grep_searcher.specs.Searches.{EachAsked, EachPoint, GoesOnWith, HasReadLines, IsAllSeen, IsCut, IsCutSearch, IsPoint}
+use Rattle.grep_searcher.specs.Searches.{EachAsked, EachPoint, GoesOnWith, HasReadLines}
+use Rattle.grep_searcher.specs.Searches.{IsAllSeen, IsCut, IsCutSearch, IsPoint}
 use Rattle.grep_searcher.specs.Searches.{IsRead, IsReaderSearched, quits}
-use Rattle.grep_searcher.specs.Searches.{IsSearchOf, IsUnlessRefusedBy, Look, Points, asked, calls_with, look_of, plan_with, ran, view_in}
-use Rattle.grep_searcher.specs.Searches.{HasBegun, IsInOrder, IsInputOf, IsReadingError, asked_in_order, ran_in_order, read_in_order, viewed_plan}
+use Rattle.grep_searcher.specs.Searches.{IsSearchOf, IsUnlessRefusedBy, Look, Points, asked}
+use Rattle.grep_searcher.specs.Searches.{calls_with, look_of, plan_with, ran, view_in}
+use Rattle.grep_searcher.specs.Searches.{HasBegun, IsInOrder, IsInputOf, IsReadingError}
+use Rattle.grep_searcher.specs.Searches.{asked_in_order, ran_in_order, read_in_order, viewed_plan}
 use Rattle.grep_searcher.specs.SinkFolds.{InputsAreSearched}
 use Rattle.grep_searcher.specs.Source.{ReadResult}
 use Rattle.grep_searcher.specs.declared.ConfigError.{ConfigError}
 use Rattle.grep_searcher.specs.declared.SearchError.{SearchError}
 use Rattle.grep_searcher.specs.declared.SearchError.TheVariants.{Io}
-use Rattle.grep_printer.specs.PrintedSearches.{IsAllSeenAfter, IsInputPrinted, IsPlanPrinted, IsPointOfAll, IsPrintedInOrder}
-use Rattle.grep_printer.specs.PrintedSearches.{IsSearchPrinted}
+use Rattle.grep_printer.specs.PrintedSearches.{IsAllSeenAfter, IsInputPrinted, IsPlanPrinted}
+use Rattle.grep_printer.specs.PrintedSearches.{IsPointOfAll, IsPrintedInOrder, IsSearchPrinted}
 use Rattle.grep_printer.specs.PrintedSearches.{IsSeenSearch, IsSourcePrinted, PrintsFirst}
 use Rattle.grep_printer.specs.PrintedSearches.{PrintsPlan, of_input, of_matcher, of_plan, of_reading, search_errors}
 
@@ -32,7 +36,8 @@ module _ {F M W E : Type 0} (rules : Rules F) (output : E → Option (List ℕ))
   StepOf = PrintsCall rules output facts first_at write_step
 
   -- a run along a plan, of whose calls more is known if all were made
-  plan-printed : (Known : Plan → List PrintedCall → Type 0) (settings : Settings) (old : PrinterSink F M W) (plan : Plan)
+  plan-printed : (Known : Plan → List PrintedCall → Type 0) (settings : Settings)
+      (old : PrinterSink F M W) (plan : Plan)
       (result : Result (Unit {0}) (SearchError Global)) (new : PrinterSink F M W)
       (run : IsRun StepOf settings old plan result new)
       → ((printed : List PrintedCall)
@@ -121,17 +126,20 @@ module _ {F M W E : Type 0} (rules : Rules F) (output : E → Option (List ℕ))
     cut-printed : (e : SearchError Global)
         → IsCutSearch remaining read_step StepOf (search_errors output) (facts old.matcher) state look reader old e
         reader' new
-        → IsSourcePrinted rules output facts first_at write_step remaining read_step state reader old (Err e) reader' new
+        → IsSourcePrinted rules output facts first_at write_step remaining read_step state reader
+        old (Err e) reader' new
     cut-printed e cut = by cut.begun refl
       where
         made-of : IsSourcePrinted rules output facts first_at write_step remaining read_step state reader old
             (Err (Io cut.error)) reader' new
-            → IsSourcePrinted rules output facts first_at write_step remaining read_step state reader old (Err e) reader' new
+            → IsSourcePrinted rules output facts first_at write_step remaining read_step state
+            reader old (Err e) reader' new
         made-of printed = subst (λ cause. IsSourcePrinted rules output facts first_at write_step remaining read_step state
             reader old (Err cause) reader' new) (sym cut.made) printed
 
         by : (begun : Bool) → cut.begun ≡ begun
-            → IsSourcePrinted rules output facts first_at write_step remaining read_step state reader old (Err e) reader' new
+            → IsSourcePrinted rules output facts first_at write_step remaining read_step state
+            reader old (Err e) reader' new
         by true is = made-of (of_reading cut.taken true cut.seen cut.error
             (subst (λ b. IsCut remaining read_step state (facts old.matcher).meaning reader cut.mid reader' cut.taken
             cut.seen b cut.error) is cut.cause)
@@ -153,7 +161,8 @@ module _ {F M W E : Type 0} (rules : Rules F) (output : E → Option (List ℕ))
     read-printed inputs (Err e) (inr cut) = cut-printed e cut
 
     -- a search, refused or not
-    printed-unless : Inputs old.matcher → (result : Result (Unit {0}) (SearchError Global)) (refusal : Option ConfigError)
+    printed-unless : Inputs old.matcher → (result : Result (Unit {0}) (SearchError Global))
+        (refusal : Option ConfigError)
         → IsUnlessRefusedBy (search_errors output) (facts old.matcher) state.settings old result new (reader' ≡ reader)
         (IsRead remaining read_step StepOf (search_errors output) (facts old.matcher) state look reader old
         result reader' new) refusal
@@ -234,7 +243,8 @@ module _ {F M W E : Type 0} (rules : Rules F) (output : E → Option (List ℕ))
         → (refusal_of state.settings (facts matcher).meaning ≡ None
         → IsInOrder StepOf (search_errors output) (facts matcher) state.settings
         (IsReadingError remaining read_step reader reader') old result new)
-        → IsPrintedInOrder rules output facts first_at write_step remaining read_step state reader old result reader' new
+        → IsPrintedInOrder rules output facts first_at write_step remaining read_step state reader
+        old result reader' new
     search-in-order matcher is result in_order = subst (λ m. refusal_of state.settings (facts m).meaning ≡ None
         → IsInOrder StepOf (search_errors output) (facts m) state.settings
         (IsReadingError remaining read_step reader reader') old result new) (sym is) in_order

@@ -180,7 +180,8 @@ call-words path text_at breaks parts has ranges = All-nil IsReport
 call-words path text_at (binary_data offset) parts has ranges = All-nil IsReport
 call-words path text_at (finishes count binary) parts has ranges = All-nil IsReport
 
-calls-words : (path : Option (Bor (List ℕ))) (text_at : CallTextAt) (calls : List PrintedCall) → All HasPrintedWords calls
+calls-words : (path : Option (Bor (List ℕ))) (text_at : CallTextAt) (calls : List PrintedCall)
+    → All HasPrintedWords calls
     → All IsReport (reports_of path text_at calls)
 calls-words path text_at [] has = All-nil IsReport
 calls-words path text_at (printed ∷ later) has =
@@ -190,7 +191,8 @@ calls-words path text_at (printed ∷ later) has =
     (call-words path text_at printed.call printed.parts here.call here.ranges)
     (calls-words path text_at later (All-tail HasPrintedWords printed later has))
 
-messages-read : (always : Bool) (path : Option (Bor (List ℕ))) (text_at : CallTextAt) (begun : Bool) (calls : List PrintedCall)
+messages-read : (always : Bool) (path : Option (Bor (List ℕ))) (text_at : CallTextAt)
+    (begun : Bool) (calls : List PrintedCall)
     → All HasPrintedWords calls → AreRead (messages_of always path text_at begun calls)
 messages-read always path text_at begun calls has =
     All-append (λ m. IsLineOf m (json_line m)) _ _

@@ -13,7 +13,8 @@ use Rattle.grep_matcher.specs.Lines.{byte_of}
 use Rattle.grep_printer.proofs.ColorLemmas.{painted-after, reaches-after}
 use Rattle.grep_printer.proofs.PartTextLemmas.{ordered-after}
 use Rattle.grep_printer.specs.ColoredTexts.{highlight_color, matched_color}
-use Rattle.grep_printer.specs.LineTexts.{begins_after, end_byte, fields, highlight_of, indentation, is_long, is_touching}
+use Rattle.grep_printer.specs.LineTexts.{begins_after, end_byte, fields, highlight_of}
+use Rattle.grep_printer.specs.LineTexts.{indentation, is_long, is_touching}
 use Rattle.grep_printer.specs.LineTexts.{line_text, lines_text, long_text, missing_end, more_notice, notice}
 use Rattle.grep_printer.specs.LineTexts.{painted_line, place_after, preview_text, previewed, shown_line, trimmed}
 use Rattle.grep_printer.specs.MatchedParts.{AreInOrder, parts_after}
@@ -59,13 +60,17 @@ beginning-later position start end less =
 
 module _ (layout : Layout) (kind : LineKind) where
   -- the parts that end by a position don't show in a line from there on
-  painted-later : (highlight : Option (List ℕ)) (position start : ℕ) (parts : List (ℕ × ℕ)) (line : List ℕ) → position ≤ start
-      → painted_line layout highlight (parts_after position parts) start line ≡ painted_line layout highlight parts start line
+  painted-later : (highlight : Option (List ℕ)) (position start : ℕ) (parts : List (ℕ × ℕ))
+      (line : List ℕ) → position ≤ start
+      → painted_line layout highlight (parts_after position parts) start line
+      ≡ painted_line layout highlight parts start line
   painted-later highlight position start parts line less = painted-after (matched_color layout.config.color_specs) highlight position
       (start + length (strip layout.terminator line)) start parts line less
 
-  preview-later : (highlight : Option (List ℕ)) (position start : ℕ) (parts : List (ℕ × ℕ)) (line : List ℕ) → position ≤ start
-      → preview_text layout highlight (parts_after position parts) start line ≡ preview_text layout highlight parts start line
+  preview-later : (highlight : Option (List ℕ)) (position start : ℕ) (parts : List (ℕ × ℕ))
+      (line : List ℕ) → position ≤ start
+      → preview_text layout highlight (parts_after position parts) start line
+      ≡ preview_text layout highlight parts start line
   unfolding preview_text
   preview-later highlight position start parts line less =
       let first = previewed layout line in

@@ -103,7 +103,8 @@ module _ {W : Type 0} (step : W → OutputCall → W → Type 0) where
 
   -- a piece isn't put, after which others were to come
   pub put-fails : (T : Type 0) (old now mid new : TextWriter W) (done piece rest whole : List ℕ) (error : TextError)
-      → HasPut old done now → IsPushing now mid piece → whole ≡ (done ++ piece) ++ rest → PiecePut step mid (Err error) new
+      → HasPut old done now → IsPushing now mid piece → whole ≡ (done ++ piece) ++ rest
+      → PiecePut step mid (Err error) new
       → IsSameWriter mid new → PutsInPieces step {T = T} old whole (Err error) new
   put-fails T old now mid new done piece rest whole (Io error) has pushing is (made, failed, none) same =
       let before = pending-before now mid piece has.empty pushing in

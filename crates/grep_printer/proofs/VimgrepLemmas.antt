@@ -30,7 +30,8 @@ module _ (layout : Layout) (report : Report) (start : List ℕ) (all : List (ℕ
   line_after passed part = part_line layout (line_kind report.kind) report.offset report.bytes.now
       (number_after report.number passed) part
 
-  -- of some parts it is pushed, so many lines are before a position, and these parts are left, which start there or later
+  -- of some parts it is pushed, so many lines are before a position, and these parts are left,
+  -- which start there or later
   pub record IsListing (text : List ℕ) (passed position : ℕ) (rest : List (ℕ × ℕ)) : Type 0 where
     pub writing : IsWriting (λ part. line_after (lines_before (end_byte layout) report.bytes.now part.0) part)
         (length report.bytes.now) start all text rest

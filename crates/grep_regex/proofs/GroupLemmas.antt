@@ -44,7 +44,8 @@ regex_found r text start = find_clear (excluded_bytes (regex_options r).line_ter
     (written_re (regex_options r) (regex_patterns r)) text start
 
 -- there are two slots for each group
-pub slots-of : (r : Regex) → (regex_capturing r).dfa.nfa.slot_count ≡ 2 * group_count (regex_options r) (regex_patterns r)
+pub slots-of : (r : Regex)
+    → (regex_capturing r).dfa.nfa.slot_count ≡ 2 * group_count (regex_options r) (regex_patterns r)
 slots-of r = ∥∥₁_elim (arc_value r.shared).sized (Coded-set coded_ℕ _ _) (λ s. s.capturing.slots)
 
 -- the groups of what is seen of a match
@@ -187,7 +188,8 @@ module _ (r : Regex) (hay : List ℕ) (start : ℕ) (bytes : (k : ℕ) → get_o
 
 -- which program finds the groups of an engine
 module _ (engine : Engine) where
-  pub searcher-captures : engine.groups ≡ None → ∥ engine.searcher.program.now ≡ regex_capturing (engine_regex engine) ∥₁
+  pub searcher-captures : engine.groups ≡ None
+      → ∥ engine.searcher.program.now ≡ regex_capturing (engine_regex engine) ∥₁
   searcher-captures none = ∥∥₁_map₂ engine.same engine.captures (λ same captures. same
       ∙ sym (subst (λ g. MatchOption g (regex_capturing (engine_regex engine) ≡ regex_program (engine_regex engine))
       (λ finder. finder.program.now ≡ regex_capturing (engine_regex engine))) none captures))

@@ -1,7 +1,7 @@
 -- How the pieces of a template add up to what it writes.
 use Rattle.std.proofs.Common.{◌≡◌, ℕ, zero, suc, ◌+◌, ◌-◌, ◌<◌, ◌≤◌, List, [], ◌∷◌, ◌++◌, length, drop, get_or}
-use Rattle.std.proofs.Common.{slice_index, slice_range, Option, None, Some, refl, ap, sym, ◌∙◌, arith, append_assoc, append-nil}
-use Rattle.std.proofs.Common.{drop-drop, get_or-drop, length-drop}
+use Rattle.std.proofs.Common.{slice_index, slice_range, Option, None, Some, refl, ap, sym, ◌∙◌}
+use Rattle.std.proofs.Common.{arith, append_assoc, append-nil, drop-drop, get_or-drop, length-drop}
 use Rattle.std.proofs.lemmas.Grind.{flat_map-append}
 use Rattle.std.proofs.lemmas.List.{drop_all, drop_more, take_more}
 use Rattle.std.specs.Global.{Global}

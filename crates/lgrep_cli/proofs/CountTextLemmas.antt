@@ -101,8 +101,8 @@ module _ {R W : Type 0} (remaining : R → Option (List ℕ)) (read_step : R →
         (subst (λ m. Writes write_step old (decimal m ++ 10 ∷ []) (Err error) new) (count.is bytes input) written)))
 
     -- or the input wasn't read to its end, and nothing is written
-    pub count-unread : (state : SearcherState) (literal : List ℕ) (begun : Bool) (seen : List ℕ) (e : SearchError Global)
-        (error : Error)
+    pub count-unread : (state : SearcherState) (literal : List ℕ) (begun : Bool) (seen : List ℕ)
+        (e : SearchError Global) (error : Error)
         (old new : W) (flushed : Result (Unit {0}) Error) → state ≡ searcher_of options → literal_meaning literal
         ≡ meaning_of options
         → IsUnread remaining read_step state (literal_meaning literal) reader begun seen error reader' → e ≡ Io error

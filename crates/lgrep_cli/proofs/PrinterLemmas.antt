@@ -14,7 +14,8 @@ use Rattle.grep_printer.specs.BareTexts.{is_bare}
 use Rattle.grep_printer.specs.CallParts.{has_match as matched}
 use Rattle.grep_printer.specs.Formats.{Printed, PrintedCall, Scene, printed_by}
 use Rattle.grep_printer.specs.PrintedSearches.{IsInputPrinted, PrintsCalls, PrintsPlan, of_matcher, of_plan}
-use Rattle.grep_printer.specs.PrinterSteps.{FailsAlongPlan, FailsBefore, HasFound, IsCutShort, PrintsAll, scene_of, text_of}
+use Rattle.grep_printer.specs.PrinterSteps.{FailsAlongPlan, FailsBefore, HasFound}
+use Rattle.grep_printer.specs.PrinterSteps.{IsCutShort, PrintsAll, scene_of, text_of}
 use Rattle.grep_printer.specs.StandardTexts.{asks_for_parts, default_config, standard_rules}
 use Rattle.grep_printer.specs.declared.config.Config.{Config}
 use Rattle.grep_printer.specs.declared.printer.PrinterSink.{PrinterSink}

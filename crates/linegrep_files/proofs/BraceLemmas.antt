@@ -1,7 +1,7 @@
 -- What a text with braces stands for, as far as it is read.
 use Rattle.std.proofs.Common.{◌≡◌, ℕ, ◌+◌, Bool, true, false, List, [], ◌∷◌, ◌++◌, ◌∙◌, inl, inr}
-use Rattle.std.proofs.Common.{◌-◌, ◌<◌, ◌≤◌, ◌≢◌, ap, append-nil, append_assoc, arith, drop, get_or, length, length-append, refl}
-use Rattle.std.proofs.Common.{subst, sym, take}
+use Rattle.std.proofs.Common.{◌-◌, ◌<◌, ◌≤◌, ◌≢◌, ap, append-nil, append_assoc, arith, drop, get_or}
+use Rattle.std.proofs.Common.{length, length-append, refl, subst, sym, take}
 use Rattle.std.proofs.Math.ListN.{set}
 use Rattle.std.proofs.Math.Seq.{take-append_seam}
 use Rattle.std.proofs.lemmas.List.{get_or-map, length-map, map-append, map-set, map_push, take_more}

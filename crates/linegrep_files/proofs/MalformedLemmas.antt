@@ -1,6 +1,7 @@
 -- Where the braces of a glob can't be read.
 use Rattle.std.proofs.Common.{◌≡◌, ℕ, ◌+◌, ◌<◌, ◌≤◌, Bool, true, false, List, [], ◌∷◌, ◌++◌, ◌∙◌, inl, inr}
-use Rattle.std.proofs.Common.{ap, append-nil, append_assoc, arith, drop, get_or, length, length-append, refl, subst, sym, take}
+use Rattle.std.proofs.Common.{ap, append-nil, append_assoc, arith, drop, get_or}
+use Rattle.std.proofs.Common.{length, length-append, refl, subst, sym, take}
 use Rattle.std.proofs.lemmas.List.{drop_more, length-map, map-append, take-append-drop}
 use Rattle.std.specs.Borrow.{Bor}
 use Rattle.std.specs.Global.{Global}
@@ -13,7 +14,8 @@ use Rattle.grep_ignore.proofs.ClassLemmas.{begins-is}
 use Rattle.std.proofs.lemmas.Bool.{eqb-true, false≢true}
 use Rattle.linegrep_files.specs.Braces.{AreOpen, IsRead, StandsFor, bytes_of, each_with, has_braces, is_inside}
 use Rattle.linegrep_files.specs.Braces.{none_open, one_open}
-use Rattle.linegrep_files.specs.MalformedGlobs.{AreMalformed, EndsOpen, IsFault, IsMalformedGlob, IsReadTo, inner, of_part, outermost}
+use Rattle.linegrep_files.specs.MalformedGlobs.{AreMalformed, EndsOpen, IsFault, IsMalformedGlob}
+use Rattle.linegrep_files.specs.MalformedGlobs.{IsReadTo, inner, of_part, outermost}
 use Rattle.linegrep_files.specs.MalformedGlobs.{too_many, unclosed, unopened}
 use Rattle.linegrep_files.specs.declared.braces.Brace.{Brace}
 use Rattle.linegrep_files.specs.declared.braces.TheConstants.{MOST_TEXTS}

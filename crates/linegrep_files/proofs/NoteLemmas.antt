@@ -2,7 +2,8 @@
 use Rattle.std.proofs.Common.{◌≡◌, ℕ, Bool, true, false, if◌then◌else◌}
 use Rattle.std.proofs.Common.{List, [], ◌∷◌, ◌++◌, ap, refl, sym, subst, ◌∙◌, append_assoc}
 use Rattle.std.specs.Global.{Global}
-use Rattle.std.specs.Prelude.{Err, MatchOption, None, Ok, IfOk, Option, Result, Some, String, Vec, is_some, string_bytes}
+use Rattle.std.specs.Prelude.{Err, MatchOption, None, Ok, IfOk, Option}
+use Rattle.std.specs.Prelude.{Result, Some, String, Vec, is_some, string_bytes}
 use Rattle.std.specs.Option.{option_map}
 use Rattle.std.specs.declared.io.Error.{Error}
 use Rattle.std.proofs.lemmas.Bool.{false≢true, true≢false}

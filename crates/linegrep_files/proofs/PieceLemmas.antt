@@ -48,7 +48,8 @@ piece-shorter ignores begins text piece next rest (of_other class stars other) =
 -- a piece that is read as in an ignore file
 pub ignore-step : {E : Type 0} (result : Result Step E) (ignores begins : Bool) (text : List ℕ)
     → begins_with 91 text ≡ false → has_stars text ≡ false
-    → MatchResult result (λ s. IsIgnoreText ignores begins text s.piece s.begins_name s.rest.now) (λ _. IsIgnoreFault text)
+    → MatchResult result (λ s. IsIgnoreText ignores begins text s.piece s.begins_name s.rest.now)
+    (λ _. IsIgnoreFault text)
     → IfOk result (λ s. IsPieceText ignores begins text s.piece s.begins_name s.rest.now)
 ignore-step (Ok s) ignores begins text class stars is = of_other class stars is
 ignore-step (Err e) ignores begins text class stars is = tt

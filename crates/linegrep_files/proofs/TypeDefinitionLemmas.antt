@@ -1,7 +1,7 @@
 -- Definitions of types, one change after another.
 use Rattle.std.proofs.Common.{◌≡◌, ℕ, Bool, true, false, not, ◌&&◌, ◌||◌, ◌==◌, if◌then◌else◌, List, [], ◌∷◌, ◌++◌}
-use Rattle.std.proofs.Common.{◌∙◌, ◌+◌, ◌<◌, ap, append-nil, append_assoc, arith, filter, fold, get_or, length, map, refl, rules}
-use Rattle.std.proofs.Common.{subst, sym, take}
+use Rattle.std.proofs.Common.{◌∙◌, ◌+◌, ◌<◌, ap, append-nil, append_assoc, arith, filter, fold}
+use Rattle.std.proofs.Common.{get_or, length, map, refl, rules, subst, sym, take}
 use Rattle.std.proofs.Math.ListN.{get_or-map}
 use Rattle.std.proofs.lemmas.List.{get_or_append_left, length-map, map_push, take_more}
 use Rattle.std.specs.List.{after_first, before_first, list_all, list_any, slice_split, zip}

@@ -1,5 +1,6 @@
 -- The list of types, one line after another.
-use Rattle.std.proofs.Common.{◌≡◌, ℕ, ◌+◌, ◌<◌, ◌∙◌, true, false, if◌then◌else◌, List, [], ◌∷◌, ◌++◌, ap, append-nil, append_assoc}
+use Rattle.std.proofs.Common.{◌≡◌, ℕ, ◌+◌, ◌<◌, ◌∙◌, true, false, if◌then◌else◌}
+use Rattle.std.proofs.Common.{List, [], ◌∷◌, ◌++◌, ap, append-nil, append_assoc}
 use Rattle.std.proofs.Common.{get_or, length, map, refl, sym, take}
 use Rattle.std.proofs.lemmas.Cmp.{then_total}
 use Rattle.std.specs.Cmp.Lexicographic.{on_texts}
@@ -16,7 +17,8 @@ use Rattle.std.specs.Global.{Global}
 use Rattle.std.specs.Prelude.{Err, IfOk, Ok, OnOk, Result, String, codes, is_ok, string_bytes}
 use Rattle.std.specs.List.Sorted.{IsPermutation, IsSortedBy}
 use Rattle.std.proofs.lemmas.List.Sorted.{IsPermutation-map}
-use Rattle.linegrep_files.specs.TypeDefinitions.{Definitions, definition_order, globs_of, names_after, pair_of, pairs_of}
+use Rattle.linegrep_files.specs.TypeDefinitions.{Definitions, definition_order, globs_of}
+use Rattle.linegrep_files.specs.TypeDefinitions.{names_after, pair_of, pairs_of}
 use Rattle.linegrep_files.specs.TypeDefinitions.{IsTypeList, type_line, type_lines}
 use Rattle.linegrep_files.specs.declared.type_definitions.Definition.{Definition}
 use Rattle.linegrep_files.proofs.TypeDefinitionLemmas.{last-next, last_name, names-next}
@@ -83,7 +85,8 @@ joined-globs separator (glob ∷ later) texts are =
 pub line-pushed : {X E : Type 0} (result : Result X E) (old first second third new : List ℕ) (name globs : List ℕ)
     (definitions : Definitions) → first ≡ old ++ name → second ≡ first ++ codes ": "
     → third ≡ second ++ globs → globs ≡ join_by (λ g. g) (codes ", ") (globs_of definitions name)
-    → new ≡ (if is_ok result then third ++ codes "\n" else third) → OnOk result (new ≡ old ++ type_line definitions name)
+    → new ≡ (if is_ok result then third ++ codes "\n" else third)
+    → OnOk result (new ≡ old ++ type_line definitions name)
 line-pushed (Ok value) old first second third new name globs definitions named colon listed are ended = ended
     ∙ ap (λ l. l ++ codes "\n") (listed ∙ ap (λ l. l ++ globs) (colon ∙ ap (λ l. l ++ codes ": ") named))
     ∙ ap (λ g. (((old ++ name) ++ codes ": ") ++ g) ++ codes "\n") are ∙ simp append_assoc

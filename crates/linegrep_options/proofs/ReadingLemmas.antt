@@ -12,7 +12,8 @@ use Rattle.std.specs.Str.{IsUtf8, is_utf8}
 use Rattle.linegrep_options.specs.CommandLines.{Later, NotText, Read, Reading, Refusal, Refused, WrongValue, is_value}
 use Rattle.linegrep_options.specs.CommandLines.{attached_reading, begins_with_equals, letters_reading, next_reading}
 use Rattle.linegrep_options.specs.Rows.{row_lettered, takes_value}
-use Rattle.linegrep_options.specs.CommandLines.{reading_of, refusal_of, value_reading, with_operand, with_use, word_reading}
+use Rattle.linegrep_options.specs.CommandLines.{reading_of, refusal_of, value_reading}
+use Rattle.linegrep_options.specs.CommandLines.{with_operand, with_use, word_reading}
 use Rattle.linegrep_options.specs.ParsedWords.{IsErrorOf, IsStep, after, given, later_of, refusal, texts}
 use Rattle.linegrep_options.specs.declared.command_line.ParseError.{ParseError}
 use Rattle.linegrep_options.specs.declared.command_line.ParseError.TheVariants.{Memory, Words}

@@ -1,4 +1,5 @@
-use Rattle.std.proofs.Common.{◌≡◌, ◌∙◌, ◌≤◌, ◌^◌, ℕ, Bool, List, ◌++◌, ap, append_assoc, arith, false, refl, subst, sym, true}
+use Rattle.std.proofs.Common.{◌≡◌, ◌∙◌, ◌≤◌, ◌^◌, ℕ, Bool, List, ◌++◌}
+use Rattle.std.proofs.Common.{ap, append_assoc, arith, false, refl, subst, sym, true}
 use Rattle.grep_printer.proofs.ColorLemmas.{IsPainting, matched-beyond, matched-none, painting-done, painting-more}
 use Rattle.grep_printer.proofs.PushLemmas.{pushed-last, pushed-two}
 use Rattle.grep_printer.specs.ColorRuns.{after_run, run_text}

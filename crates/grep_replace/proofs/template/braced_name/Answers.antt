@@ -1,11 +1,14 @@
-use Rattle.std.proofs.Common.{◌≡◌, ◌+◌, ◌<◌, ◌==◌, ◌&&◌, nat_lt, ap, refl, sym, ◌∙◌, lt-ltb, arith, take, drop, get_or-drop, slice_index}
-use Rattle.std.proofs.Common.{false, length}
+use Rattle.std.proofs.Common.{◌≡◌, ◌+◌, ◌<◌, ◌==◌, ◌&&◌, nat_lt, ap, refl, sym, ◌∙◌, lt-ltb, arith}
+use Rattle.std.proofs.Common.{take, drop, get_or-drop, slice_index, false, length}
 use Rattle.std.proofs.lemmas.List.Sums.{prefix_len-le-length}
 use Rattle.regex.proofs.TemplateLemmas.{name_is_text}
 use Rattle.regex.specs.Templates.{is_name_byte}
 use Rattle.grep_replace.proofs.TemplateLemmas.{after-name}
 use Rattle.grep_replace.specs.Templates.{name_at}
-use Rattle.grep_replace.proofs.template.braced_name.Goals.{then-len-eq0-via-then-len-eq0, then-len-eq0-via-else-len-eq0+then-not-begins_with}
+use Rattle.grep_replace.proofs.template.braced_name.Goals.{
+  then-len-eq0-via-then-len-eq0,
+  then-len-eq0-via-else-len-eq0+then-not-begins_with,
+}
 use Rattle.grep_replace.proofs.template.braced_name.Goals as goal
 
 pub after-requires : goal.after-requires

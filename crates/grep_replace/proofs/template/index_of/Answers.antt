@@ -1,4 +1,5 @@
-use Rattle.std.proofs.Common.{◌≡◌, None, option_map, string_bytes, slice_index_or, sym, ap, ◌∙◌, arith, true≢false, inl, inr}
+use Rattle.std.proofs.Common.{◌≡◌, None, option_map, string_bytes, slice_index_or, sym, ap}
+use Rattle.std.proofs.Common.{◌∙◌, arith, true≢false, inl, inr}
 use Rattle.std.proofs.lemmas.Bool.{cases_lt}
 use Rattle.std.proofs.lemmas.List.{get_or-map}
 use Rattle.regex.specs.Names.{names_of}

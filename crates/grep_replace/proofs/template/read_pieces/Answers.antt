@@ -1,4 +1,5 @@
-use Rattle.std.proofs.Common.{◌≡◌, ◌+◌, ◌<◌, ◌≤◌, arith, length, length-drop, drop, None, Some, ap, sym, ◌∙◌, option_map}
+use Rattle.std.proofs.Common.{◌≡◌, ◌+◌, ◌<◌, ◌≤◌, arith, length, length-drop}
+use Rattle.std.proofs.Common.{drop, None, Some, ap, sym, ◌∙◌, option_map}
 use Rattle.regex.specs.Names.{names_of}
 use Rattle.grep_replace.specs.Templates.{reference_at}
 use Rattle.grep_replace.proofs.TemplateLemmas.{read-all, read-byte, read-reference}

@@ -1,4 +1,5 @@
-use Rattle.std.proofs.Common.{◌≡◌, ◌+◌, sym, ap, ◌∙◌, slice_index, drop, get_or-drop, None, Some, refl, option_map, ◌==◌, eqb-true}
+use Rattle.std.proofs.Common.{◌≡◌, ◌+◌, sym, ap, ◌∙◌, slice_index, drop, get_or-drop}
+use Rattle.std.proofs.Common.{None, Some, refl, option_map, ◌==◌, eqb-true}
 use Rattle.grep_replace.specs.Templates.{name_at, reference_at}
 use Rattle.grep_replace.proofs.template.reference_at.Goals as goal
 

@@ -1,7 +1,8 @@
 use Rattle.std.proofs.lemmas.Result.{err_from_is_err_and}
 use Rattle.std.proofs.Common.{ap}
 use Rattle.grep_matcher.specs.Literals.{literal_meaning}
-use Rattle.lgrep_cli.proofs.CountTextLemmas.{counted, count-unread, allowed, undetected, written-failed, written-printed}
+use Rattle.lgrep_cli.proofs.CountTextLemmas.{counted, count-unread, allowed, undetected}
+use Rattle.lgrep_cli.proofs.CountTextLemmas.{written-failed, written-printed}
 use Rattle.lgrep_cli.proofs.SearchLemmas.{out_of_memory}
 use Rattle.lgrep_cli.proofs.search.write_count.Goals as goal
 

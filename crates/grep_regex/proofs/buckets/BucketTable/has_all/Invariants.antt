@@ -5,4 +5,5 @@ use Rattle.grep_regex.proofs.buckets.BucketTable.has_all.Given as goal
 
 abbrev pub invariant-loop-i : goal.invariant-loop-i
 invariant-loop-i l = (i : ℕ) → i < l.i → l.position < length (slice_index_or (items_of l.choices) i [])
-    → HasInBucket (slice_index_or (slice_index_or (items_of l.choices) i []) l.position []) (i % 8) l.self.low l.self.high
+    → HasInBucket (slice_index_or (slice_index_or (items_of l.choices) i []) l.position []) (i % 8)
+    l.self.low l.self.high

@@ -5,7 +5,9 @@ use Rattle.grep_walk.proofs.config.Config.look_ahead.Goals as goal
 use Rattle.grep_walk.proofs.config.Config.look_ahead.Goals.{Joined-then-start-ahead}
 use Rattle.grep_walk.proofs.config.Config.look_ahead.Goals.{then-start-ahead-via-then-start-ahead}
 use Rattle.grep_walk.proofs.config.Config.look_ahead.Goals.{then-start-ahead-via-else-start-ahead+then-start-window}
-use Rattle.grep_walk.proofs.config.Config.look_ahead.Goals.{then-start-ahead-via-else-start-ahead+else-start-window+then-not-asks_ahead}
+use Rattle.grep_walk.proofs.config.Config.look_ahead.Goals.{
+  then-start-ahead-via-else-start-ahead+else-start-window+then-not-asks_ahead,
+}
 
 -- there is none of what can't be
 none-of : {E : Type 0} {P : E → Type 0} (o : Option E) → IfSome o P → ((e : E) → P e → ⊥) → o ≡ None
