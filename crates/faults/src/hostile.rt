@@ -107,7 +107,8 @@ pub(crate) fn try_hostile<W: io::Write>(alloc: Global, output: &mut W) -> io::Re
     )
 }
 
-// The same with one, by the searcher of a row.
+// Searches with one of these, by the searcher of a row, and writes whether the search ends as it
+// has to.
 fn try_guest<W: io::Write>(
     alloc: Global,
     row: &Row,

@@ -68,7 +68,7 @@ mode_after (Fresh label sniff) input = mode_of (found_mark label sniff input) la
 mode_after Passing input = Passing
 mode_after (Decoding label) input = Decoding label
 
--- the same, if these are the bytes that remain of the reader
+-- the mode in which a decoder reads on after the mark, if these bytes remain of the reader
 abbrev pub next_mode : DecoderState → List ℕ → Mode
 next_mode d rest = mode_after d.mode (d.held ++ unread d.has_ended rest)
 

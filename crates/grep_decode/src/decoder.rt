@@ -141,7 +141,7 @@ impl<A: Allocator> Decoder<A> {
         let _mode = self.mode;
     }
 
-    // The same, by the pieces that the reader returned.
+    // Reads decoded bytes, as `pull` does. Its clauses name the pieces that the reader returned.
     fn read_some<R: Source>(&mut self, reader: &mut R, buffer: &mut [u8]) -> io::Result<usize>
         ensures bound { ReadsAtMost result buffer.new }
         ensures capacity { self.new.capacity ≡ self.old.capacity }
@@ -185,7 +185,7 @@ impl<A: Allocator> Decoder<A> {
         self.read_on(reader, buffer)
     }
 
-    // The same after the mark.
+    // Reads decoded bytes after the byte order mark, if there is one.
     fn read_on<R: Source>(&mut self, reader: &mut R, buffer: &mut [u8]) -> io::Result<usize>
         requires settled { IsSettled self.old.mode }
         requires room { 0 < length buffer.old }

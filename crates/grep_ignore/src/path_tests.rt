@@ -171,7 +171,8 @@ fn count_by_ends<T: PathTest>(
     Ok(count)
 }
 
-// The same by the numbers of texts that its names begin with, if there are more than `least`.
+// How many values there are up to the last that is about what is at a path, by the numbers of texts
+// that its names begin with, if there are more than `least`.
 fn count_by_starts<T: PathTest>(
     items: &[T],
     numbers: &Numbers,

@@ -96,7 +96,8 @@ fn match_front(pieces: &[Piece], row: &mut Vec<bool>, path: &[u8]) -> Result<boo
     }
 }
 
-// The same, by rows.
+// Whether a path matches some pieces, by a row for each piece: where in the path the pieces so far
+// may end.
 fn match_rest(pieces: &[Piece], row: &mut Vec<bool>, path: &[u8]) -> Result<bool, AllocError>
     ensures { IfOk result (λ matches. IsTrue matches ↔ Matches pieces.now path.now) }
 {

@@ -75,8 +75,8 @@ module _ {R : Type 0} (remaining : R → Option (List ℕ)) (step : R → ReadRe
     pub fits : 0 < length given → length (held_bytes old) + length given ≤ new.size
     pub decodes : Decodes remaining step decoder reader given decoder' reader'
 
-  -- The same, and then one more call of the reader returned this error. The decoder has still to
-  -- give all that it had then.
+  -- A fill, and then one more call of the reader, which returned this error. The decoder has still
+  -- to give all that it had then.
   pub record FailsToFill (error : Error) (old : BufferState) (decoder : DecoderState) (reader : R)
       (new : BufferState)
       (decoder' : DecoderState) (reader' : R) : Type 0 where

@@ -22,7 +22,7 @@ pub(crate) fn marks(bytes: &[u8], from: usize, byte: u8) -> u64
         .to_bitmask()
 }
 
-// The same of half as many bytes.
+// Which of half as many bytes from a position on are this byte.
 #[inline(always)]
 pub(crate) fn half_marks(bytes: &[u8], from: usize, byte: u8) -> u64
     requires { from + HALF ≤ length bytes.now }

@@ -218,8 +218,8 @@ module _ (layout : Layout) where
   path_mark mark =
       if layout.config.heading then [] else mark_after layout.config.path_terminator mark
 
-  -- the same fields as a link to the line. Each mark comes between two fields, and the last one
-  -- after the link
+  -- the fields before a line as a link to the line. Each mark comes between two fields, and the
+  -- last one after the link
   abbrev pub linked_fields : Hyperlink → LineKind → Place → List ℕ
   linked_fields link kind place =
       let mark = mark_of layout.config.separators kind in

@@ -55,8 +55,8 @@ pub(crate) fn find_start(prefix: &Prefix, haystack: &[u8], start: usize, asked: 
     }
 }
 
-// The same where none starts before a later position. It isn't inlined, so that the first look of
-// one sequence stays short.
+// Where the first match from a later position on starts, if none starts before that. It isn't
+// inlined, so that the first look of one sequence stays short.
 #[inline(never)]
 fn find_later(prefix: &Prefix, haystack: &[u8], start: usize, next: usize) -> Start
     requires low { start ≤ next }
@@ -112,7 +112,7 @@ fn decide_choices(choices: &[Vec<ByteSet>], haystack: &[u8], at: usize) -> Verdi
     decide_any(choices, haystack, at)
 }
 
-// The same of as many as there are.
+// What is decided of a position by any number of sequences.
 fn decide_any(choices: &[Vec<ByteSet>], haystack: &[u8], at: usize) -> Verdict
     requires { at ≤ length haystack.now }
     ensures { IsVerdict (any_decision (items_of choices.now) haystack.now) at result }

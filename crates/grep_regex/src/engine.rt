@@ -83,7 +83,7 @@ impl<'r> Engine<'r> {
         }
     }
 
-    // The same, by a new engine.
+    // The first match from a position on, by a new engine. The only error is being out of memory.
     pub(crate) fn find_anew(
         alloc: Global,
         regex: &'r Regex,
@@ -126,7 +126,8 @@ impl<'r> Engine<'r> {
         }
     }
 
-    // The same by cells, two for each group but the first.
+    // The first match from a position on, with its groups in place of what was in `groups`. The
+    // engine writes them to cells, two for each group but the first.
     fn captures_by(
         &mut self,
         haystack: &[u8],
@@ -184,7 +185,8 @@ impl<'r> Engine<'r> {
         }
     }
 
-    // The same, by a new engine.
+    // The first match from a position on, with its groups in place of what was in `groups`, by a
+    // new engine. The only error is being out of memory.
     pub(crate) fn captures_anew(
         alloc: Global,
         regex: &'r Regex,

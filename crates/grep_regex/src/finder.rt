@@ -39,7 +39,7 @@ pub(crate) trait Finder {
             (IsAnswer asked (regex_text_at regex.now haystack.now start)) }
         ensures within { IfSome result (IsFrom start haystack.now) };
 
-    // The same match with its groups, in place of what was in `groups`.
+    // That match with its groups, in place of what was in `groups`.
     fn captures_for(
         &mut self,
         regex: &Regex,
@@ -84,8 +84,9 @@ fn find_by<F: Finder>(
     }
 }
 
-// The same in a haystack of which all is seen, by what is in the cell if that is for this
-// expression, and otherwise by a new engine. It isn't inlined: engines take much of the stack.
+// The first match from a position on in a haystack of which all is seen: by what is in the cell if
+// that is for this expression, and otherwise by a new engine. It isn't inlined: engines take much
+// of the stack.
 #[inline(never)]
 fn find_in<F: Finder>(
     alloc: Global,
@@ -157,7 +158,8 @@ pub(crate) fn captures_at<F: Finder>(
     captures_in(alloc, regex, cell, seen, start, groups)
 }
 
-// The same in a haystack of which all is seen.
+// The first match from a position on in a haystack of which all is seen, with its groups in place
+// of what was in `groups`.
 fn captures_in<F: Finder>(
     alloc: Global,
     regex: &Regex,

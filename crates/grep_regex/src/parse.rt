@@ -121,7 +121,8 @@ fn read(alloc: Global, options: &Options, index: usize, pattern: &str) -> Result
     }
 }
 
-// The same of a literal, whose escape is read. An error is one of the literal as a whole.
+// What a literal is read as, which is the pattern with this index. Its escape is read, and an error
+// is one of the literal as a whole.
 fn read_literal(
     alloc: Global,
     config: &Config,

@@ -40,7 +40,7 @@ pub(crate) struct Prefix {
     first: Table,
     second: Table,
     third: Table,
-    // The same three sets, if each has one byte or two.
+    // The sets of these three tables, if each has one byte or two.
     folds: (Fold, Fold, Fold),
     has_folds: bool,
     buckets: Buckets,
@@ -129,7 +129,7 @@ impl Prefix {
         }
     }
 
-    // The same by the sets that are tables.
+    // A position up to which the sets that are tables decide that there is no match.
     #[inline(always)]
     fn skip_by_tables(&self, haystack: &[u8], start: usize) -> usize
         requires { start ≤ length haystack.now }
@@ -178,7 +178,7 @@ impl Prefix {
         self.skip_with(&rare, haystack, SETS, start)
     }
 
-    // The same by folds.
+    // A position up to which three of the sets that cover the others decide it, by folds.
     #[inline(always)]
     fn skip_by_folds(&self, haystack: &[u8], start: usize) -> usize
         requires start { start ≤ length haystack.now }
@@ -313,7 +313,8 @@ impl Prefix {
         (either(bytes, signs), self.buckets.first.lanes(bytes, later))
     }
 
-    // The same of the sets from the second one on.
+    // For each position of a vector, which bytes aren't ASCII, and the buckets whose sets from the
+    // second one on may follow.
     #[inline(always)]
     fn second_marks<const SETS: usize>(&self, haystack: &[u8], at: usize) -> (u8x32, u8x32)
         requires room { at + SETS + WIDTH ≤ length haystack.now + 2 }
@@ -331,7 +332,8 @@ impl Prefix {
         )
     }
 
-    // The same of the sets from the third one on.
+    // For each position of a vector, which bytes aren't ASCII, and the buckets whose sets from the
+    // third one on may follow.
     #[inline(always)]
     fn third_marks<const SETS: usize>(&self, haystack: &[u8], at: usize) -> (u8x32, u8x32)
         requires room { at + SETS + WIDTH ≤ length haystack.now + 3 }
@@ -369,7 +371,7 @@ impl<const SETS: usize> Target for RareSets<'_, SETS> {
     }
 }
 
-// The same sets, as they are looked for by their folds.
+// The three sets from the first table on, as they are looked for by their folds.
 #[derive(Drop)]
 struct FoldedSets<'a> {
     prefix: &'a Prefix,

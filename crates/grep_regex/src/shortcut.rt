@@ -68,7 +68,8 @@ impl<'r> Shortcut<'r> {
         }
     }
 
-    // The same for an expression that is no literal.
+    // What is known of the first match from a position on, by the sets that an expression begins
+    // with. The expression is no literal.
     #[inline]
     fn look_by_sets(&self, haystack: &[u8], start: usize, asked: Asked) -> Known
         requires { start ≤ length haystack.now }

@@ -58,8 +58,8 @@ pub(crate) fn skip<T: Target>(target: &T, haystack: &[u8], size: usize, start: u
     }
 }
 
-// The same in windows of two vectors, as long as there is room for one, and whether it may follow
-// there.
+// Skips windows of two vectors, as long as there is room for one. The result is how far that is,
+// and whether the target may follow there.
 #[inline(always)]
 fn skip_pairs<T: Target>(target: &T, from: usize, last: usize) -> (usize, bool)
     requires room { last + T.size target.now + WIDTH ≤ length (T.haystack target.now) + 1 }

@@ -201,7 +201,7 @@ fn name_at(rest: &[u8]) -> Option<(&str, usize)>
     }
 }
 
-// The same in braces.
+// The name in braces, and how many bytes it takes with these.
 fn braced_name(rest: &[u8]) -> Option<(&str, usize)>
     requires braced { slice_index rest.now 0 ≡ 123 }
     requires some { 0 < length rest.now }

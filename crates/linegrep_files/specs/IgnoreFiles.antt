@@ -164,7 +164,7 @@ module _ (folders : FolderFacts) where
   IsThere folder name is_there = (found : Result Found Error)
       × folders.looks true (joined folder name) found × (is_there ≡ is_ok found)
 
-  -- the same of a name, if the folder may have it. Otherwise there is nothing with the name
+  -- there is something with a name in a folder, if the folder may have the name, or there isn't
   abbrev pub IsMarkThere : List ℕ → List ℕ → Bool → Bool → Type 0
   IsMarkThere folder name is_marked is_there =
       MatchBool is_marked (IsThere folder name is_there) (is_there ≡ false)

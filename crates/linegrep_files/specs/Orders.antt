@@ -58,7 +58,7 @@ abbrev pub upward_order : Order → Ranked → Ranked → Ordering
 upward_order order one other = if is_by_time order then by_time one.time other.time
     else path_cmp (string_bytes one.path) (string_bytes other.path)
 
--- the same, or backwards
+-- how two files are sorted: upwards, or backwards
 abbrev pub rank_order : Order → Ranked → Ranked → Ordering
 rank_order order one other = if order.is_reversed then upward_order order other one
     else upward_order order one other
