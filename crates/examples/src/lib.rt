@@ -7,20 +7,24 @@
 mod about;
 mod closure;
 mod files;
+mod folders;
 mod groups;
 mod lines;
 mod patterns;
 mod printed;
 mod sink;
+mod spans;
 mod stdin;
 #[cfg(test)]
 mod tests;
 
 pub use closure::first_matches;
 pub use files::simplegrep;
-pub use groups::swapped;
+pub use folders::count_in_folder;
+pub use groups::{named_group, swapped};
 pub use lines::{counts, in_encoding};
 pub use patterns::{first_match, matches_any, matches_word};
 pub use printed::{json_messages, match_count, standard_lines};
 pub use sink::{Longest, longest_match};
+pub use spans::all_matches;
 pub use stdin::{search_stdin, write_matches};

@@ -1,8 +1,10 @@
 //! Each example on values worked by hand.
 use crate::{
-    counts, first_match, first_matches, in_encoding, json_messages, longest_match, match_count,
-    matches_any, matches_word, search_stdin, simplegrep, standard_lines, swapped, write_matches,
+    all_matches, count_in_folder, counts, first_match, first_matches, in_encoding, json_messages,
+    longest_match, match_count, matches_any, matches_word, named_group, search_stdin, simplegrep,
+    standard_lines, swapped, write_matches,
 };
+use grep_regex::Regex;
 use grep_searcher::SearchError;
 use std::alloc::Global;
 use std::fmt::Display;
@@ -111,6 +113,33 @@ fn parts_of_lines(rt: HostRuntime) {
     assert!(rt; matches!(finds_parts(rt.alloc()), Ok(true)));
 }
 
+// Where the matches of a pattern in a line begin and end.
+fn finds_all(alloc: Global) -> Result<bool, SearchError> {
+    let regex = Regex::new(alloc, "b*|c")?;
+    let matcher = regex.matcher(alloc)?;
+    let matches = all_matches(alloc, &matcher, b"abbc")?;
+    Ok(match matches.as_slice() {
+        [first, second, third] => (first.start(), first.end()) == (0, 0)
+            && (second.start(), second.end()) == (1, 3)
+            && (third.start(), third.end()) == (4, 4),
+        _ => false,
+    })
+}
+
+fn finds_named(alloc: Global) -> Result<bool, SearchError> {
+    let pattern = r"(\d+)-(?<month>\d+)|(?<word>\w+)";
+    let month = named_group(alloc, pattern, "month", b"(2026-12)")?;
+    let word = named_group(alloc, pattern, "word", b"(2026-12)")?;
+    let year = named_group(alloc, pattern, "year", b"(2026-12)")?;
+    Ok(month == Some(b"12".as_slice()) && word.is_none() && year.is_none())
+}
+
+#[test]
+fn all_matches_and_named_groups(rt: HostRuntime) {
+    let alloc = rt.alloc();
+    assert!(rt; matches!(finds_all(alloc), Ok(true)) && matches!(finds_named(alloc), Ok(true)));
+}
+
 fn is_written(written: Result<Vec<u8>, SearchError>, text: &[u8]) -> bool {
     match written {
         Ok(bytes) => bytes.as_slice() == text,
@@ -152,6 +181,18 @@ fn temporary_path(rt: &HostRuntime) -> io::Result<PathBuf> {
     Ok(env::temp_dir(rt)?.join(alloc, name.as_str())?)
 }
 
+// Whether the files of a folder that globs choose, and how many lines of each have a literal, are
+// these: this one file with this count.
+fn counts_file(rt: &HostRuntime, globs: &[&str], folder: &str, file: &str) -> bool {
+    match count_in_folder(rt, b"two", globs, folder) {
+        Ok(counts) => match counts.as_slice() {
+            [(path, count)] => path.as_str() == file && *count == 1,
+            _ => false,
+        },
+        Err(_) => false,
+    }
+}
+
 // Whether the lines of a file are found in its folder, and counted.
 fn searches_folder(rt: &HostRuntime, folder: &str) -> Result<bool, SearchError> {
     let file = format!(in rt.alloc(); "{folder}/notes")?;
@@ -160,8 +201,11 @@ fn searches_folder(rt: &HostRuntime, folder: &str) -> Result<bool, SearchError> 
     let mut writer = Vec::new(rt.alloc());
     simplegrep(rt, "t.o$", &[folder, "no such file"], &mut writer)?;
     let count = in_encoding(rt, "utf8", b"two", file.as_str())?;
+    let is_counted = counts_file(rt, &[], folder, file.as_str())
+        && counts_file(rt, &["n*"], folder, file.as_str())
+        && !counts_file(rt, &["*.md"], folder, file.as_str());
     fs::remove_file(rt, file.as_str())?;
-    Ok(writer.as_slice() == expected.as_bytes() && count == 1)
+    Ok(writer.as_slice() == expected.as_bytes() && count == 1 && is_counted)
 }
 
 fn searches_files(rt: &HostRuntime) -> Result<bool, SearchError> {
