@@ -1,8 +1,8 @@
 //! Each example on values worked by hand.
 use crate::{
     all_matches, count_in_folder, counts, first_match, first_matches, in_encoding, json_messages,
-    longest_match, match_count, matches_any, matches_word, named_group, search_stdin, simplegrep,
-    standard_lines, swapped, write_matches,
+    longest_match, match_count, matches_any, matches_word, named_group, replaced_lines,
+    search_stdin, simplegrep, standard_lines, swapped, write_matches,
 };
 use grep_regex::Regex;
 use grep_searcher::SearchError;
@@ -172,6 +172,13 @@ fn printers(rt: HostRuntime) {
             && is_written(match_count(alloc, "ferns", "notes", GARDEN), b"notes:2\n")
             && writes_messages(alloc)
     );
+}
+
+#[test]
+fn replaced_matches(rt: HostRuntime) {
+    let alloc = rt.alloc();
+    let lines = replaced_lines(alloc, "([a-z])=([a-z])", b"$2=$1", b"x\na=b, c=d\n");
+    assert!(rt; is_written(lines, b"b=a, d=c\n"));
 }
 
 // A path of this process alone, in the directory for temporary files.
