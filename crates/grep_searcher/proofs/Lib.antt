@@ -1,9 +1,13 @@
+pub mod AppendedItemLemmas
 pub mod AppendedPartLemmas
 pub mod BoundedReadLemmas
+pub mod ByteCountLemmas
 pub mod ClosureSinkLemmas
 pub mod CountSinkLemmas
+pub mod CountedCallLemmas
 pub mod CutLemmas
 pub mod DetectedRunLemmas
+pub mod GapLemmas
 pub mod HandledLineLemmas
 pub mod HitLineLemmas
 pub mod InputSearchLemmas
@@ -22,6 +26,7 @@ pub mod ReadingLemmas
 pub mod ReportedLineLemmas
 pub mod ResultLemmas
 pub mod RollingLemmas
+pub mod RunInvariantLemmas
 pub mod SearchFailureLemmas
 pub mod SinkFoldLemmas
 pub mod SourceSearchLemmas

@@ -39,7 +39,7 @@ use Rattle.grep_searcher.proofs.HitLineLemmas.{hits_if-plain}
 -- ---- the numbers that pass
 
 -- listed one by one they are a filter of all
-passing-filter : (p : ℕ → Bool) (i n : ℕ) → joined_from (passing p) i n
+pub passing-filter : (p : ℕ → Bool) (i n : ℕ) → joined_from (passing p) i n
     ≡ filter p (range_with_len i n)
 passing-filter p i zero = refl
 passing-filter p i (suc n) = go (p i) (passing-filter p (i + 1) n)
@@ -186,7 +186,7 @@ module _ (k : Settings) (meaning : Meaning) (bytes : List ℕ) where
           (sym (matched-selected by i) ∙ is) in omega arith)
       go false is = refl
 
-  matched-hits : IsFilter k → matched_lines k meaning bytes
+  pub matched-hits : IsFilter k → matched_lines k meaning bytes
       ≡ items_up_to k.max_matches (filter is_hit_at (range_with_len 0 n))
   matched-hits by =
       let matched = is_matched k meaning bytes in

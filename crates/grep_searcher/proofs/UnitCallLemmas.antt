@@ -3,7 +3,7 @@ use Rattle.std.proofs.Common.{◌≡◌, ℕ, zero, suc, ◌+◌, ◌-◌, ◌<�
 use Rattle.std.proofs.Common.{List, [], ◌∷◌, ◌++◌, length, refl, sym, ◌∙◌, ap, arith, Option, Some}
 use Rattle.std.proofs.Common.{None, if◌then◌else◌}
 use Rattle.std.proofs.lemmas.Bool.{false≢true, ltb-true}
-use Rattle.std.proofs.lemmas.List.{map-append, length-map}
+use Rattle.std.proofs.lemmas.List.{length-map}
 use Rattle.std.proofs.lemmas.List.Elements.{filter-append}
 use Rattle.std.proofs.lemmas.Option.{slice_get-map}
 use Rattle.std.specs.Prelude.{filter, map, nat_lt, slice_get}
@@ -161,7 +161,7 @@ first_match-is_first_unit k meaning bytes across =
     (first-passing (begins_unit k meaning bytes) (line_count k bytes) ∙ first-begun k meaning bytes)
 
 -- a line begins no earlier than as many bytes as there are lines before it
-start-high : (t : ℕ) (bytes : List ℕ) (i : ℕ) → i ≤ length (lines t bytes) → i
+pub start-high : (t : ℕ) (bytes : List ℕ) (i : ℕ) → i ≤ length (lines t bytes) → i
     ≤ line_start t bytes i
 start-high t bytes zero inside = omega arith
 start-high t bytes (suc i) inside =

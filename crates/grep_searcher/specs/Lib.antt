@@ -1,11 +1,15 @@
+pub mod AppendedItems
 pub mod AppendedParts
 pub mod BinaryCalls
 pub mod BoundedReads
+pub mod ByteCounts
 pub mod ClosureSinks
 pub mod CountSinks
+pub mod CountedCalls
 pub mod DetectedRuns
 pub mod EveryLines
 pub mod FileSearches
+pub mod Gaps
 pub mod HandledLines
 pub mod HeldViews
 pub mod HitLines
@@ -18,6 +22,7 @@ pub mod PassedCalls
 pub mod QuittingSinks
 pub mod ReportedLines
 pub mod Rolls
+pub mod RunInvariants
 pub mod SearchBuffers
 pub mod SearchFailures
 pub mod SinkFolds

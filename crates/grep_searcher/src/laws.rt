@@ -4,16 +4,20 @@
 ghost use Rattle.std.specs.Str.Lossy.{utf8_lossy};
 ghost use Rattle.grep_searcher.specs.ClosureSinks.{ClosuresAreCalled, ClosuresKeep, IsUtf8Text};
 ghost use Rattle.grep_searcher.specs.ClosureSinks.{IsLossyText, IsWholeText};
+ghost use Rattle.grep_searcher.specs.AppendedItems.{RunsAppendItems, RunsEnd};
 ghost use Rattle.grep_searcher.specs.AppendedParts.{CallsAppend, RunsAppend, RunsAppendByState};
 ghost use Rattle.grep_searcher.specs.AppendedParts.{RunsAppendLines, RunsAppendMatches};
 ghost use Rattle.grep_searcher.specs.BoundedReads.{EndedKnownReadersStop, EndedReadersStop};
 ghost use Rattle.grep_searcher.specs.BoundedReads.{FirstEnds, ReadersFindLines};
+ghost use Rattle.grep_searcher.specs.ByteCounts.{CountsToLimit};
 ghost use Rattle.grep_searcher.specs.CountSinks.{RunsCount, RunsCountAll};
+ghost use Rattle.grep_searcher.specs.CountedCalls.{RunsCountCalls};
 ghost use Rattle.grep_searcher.specs.DetectedRuns.{DecodedSlicesFailWith, DecodedSlicesRunWith};
 ghost use Rattle.grep_searcher.specs.DetectedRuns.{KnownReadersFailWith, KnownReadersRunWith};
 ghost use Rattle.grep_searcher.specs.DetectedRuns.{ReadersFailWith, ReadersRunWith};
 ghost use Rattle.grep_searcher.specs.DetectedRuns.{SlicesFailWith, SlicesRunWith};
 ghost use Rattle.grep_searcher.specs.EveryLines.{AllLinesHit, EveryLineHits};
+ghost use Rattle.grep_searcher.specs.Gaps.{BreaksAreCounted, BreaksAreFew, BreaksAreGaps};
 ghost use Rattle.grep_searcher.specs.HandledLines.{KnownReadersHandleLines, ReadersHandleLines};
 ghost use Rattle.grep_searcher.specs.HandledLines.{LinesReach, SlicesHandleLines};
 ghost use Rattle.grep_searcher.specs.HitLines.{HitsAreSelected, HitsAreMatched, HitsAreCounted};
@@ -114,6 +118,23 @@ pub fn matches_are_within_count()
     ensures { MatchesAreWithinCount }
 {}
 
+/// By line, with a context before or after matches, the calls of a plan are `begin` and the reports,
+/// with a break in each gap between two: if the second begins after the end of the first. So there
+/// are as many breaks as gaps. With any settings there are at most as many as the byte count of the
+/// whole plan, which is at most as many as there are bytes.
+pub fn breaks_are_gaps()
+    ensures calls { BreaksAreGaps }
+    ensures counted { BreaksAreCounted }
+    ensures few { BreaksAreFew }
+{}
+
+/// By line, under a limit, without a stop, a context after matches and `passthru`, the byte count of
+/// the whole plan is where the line ends that fills the limit; if fewer lines hit, it is the length
+/// of the bytes, and at the limit 0 it is 0.
+pub fn counts_to_limit()
+    ensures { CountsToLimit }
+{}
+
 /// A run that ended in `Ok`, of a sink whose steps are functions of the state and the call, is a
 /// fold over the planned calls: up to the first after which the sink doesn't go on, and then
 /// `finish`.
@@ -139,12 +160,32 @@ pub fn runs_append_parts<S: Sink, X>()
     ensures { RunsAppend S.step X }
 {}
 
+/// If each call of a sink that succeeds goes on, and each match appends one item to what the sink
+/// keeps, and no other call appends any, a run that ended in `Ok` appends the items of the matches
+/// that are reported, in order. `X` is what is appended.
+pub fn runs_append_items<S: Sink, X>()
+    ensures { RunsAppendItems S.step X }
+{}
+
+/// If each call of a sink that succeeds goes on, the last call of a run that ended in `Ok` is
+/// `finish`, with the byte count of the whole plan.
+pub fn runs_end<S: Sink>()
+    ensures { RunsEnd S.step }
+{}
+
 /// A run of a new `Count` along the plan of some bytes, that ended in `Ok`, counted the matches
 /// that are reported. Any run that ended in `Ok` added them to what was counted before, up to the
 /// largest `u64`.
 pub fn runs_count_matches<E>()
     ensures all { RunsCountAll E }
     ensures added { RunsCount E }
+{}
+
+/// If each call of a sink that succeeds goes on, and one that passes a test adds 1 to what the sink
+/// counts, up to the largest `u64`, and no other does, as `finish`, then a run that ended in `Ok` adds
+/// how many of the planned calls pass.
+pub fn runs_count_calls<S: Sink>()
+    ensures { RunsCountCalls S.step }
 {}
 
 /// By line, a run of a new `Count` that ended in `Ok` counted the matched lines.

@@ -3,6 +3,7 @@
 mod filtered;
 mod kept;
 mod lent;
+mod measured;
 mod pieces;
 mod printing;
 mod programs;

@@ -2,6 +2,7 @@ pub mod MatchedLines
 pub mod AcrossSettings
 pub mod FirstAround
 pub mod JsonLines
+pub mod LongestLines
 pub mod MarkedBlocks
 pub mod MarkedCalls
 pub mod NonAsciiLines
@@ -10,3 +11,4 @@ pub mod Outlines
 pub mod PathCounts
 pub mod PlainSettings
 pub mod Prefixes
+pub mod TakenLines

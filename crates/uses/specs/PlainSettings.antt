@@ -7,6 +7,10 @@ use Rattle.grep_searcher.specs.Plans.{Settings}
 abbrev pub as_it_is : Settings
 as_it_is = record default_settings { bom_sniffing = false }
 
--- and at most this many bytes are held, lines and all
+-- and a search ends at the last of this many lines that match
+abbrev pub limited_to : ℕ → Settings
+limited_to limit = record as_it_is { max_matches = Some limit }
+
+-- or at most this many bytes are held, lines and all
 abbrev pub held_to : ℕ → Settings
 held_to limit = record as_it_is { heap_limit = Some limit }

@@ -12,7 +12,9 @@
 //! expression. `lines_that_match` keeps the lines of a slice that match, `matches_in_lines` the first
 //! match in each of them, `last_matches` the last lines of a reader, and `lines_between` those between
 //! two marks; `first_in_each` finds the first match in each line that a search reports, and
-//! `count_in_paths` adds up the counts of files. `CALLING.md` says which laws they use.
+//! `count_in_paths` adds up the counts of files. `longest_line` keeps the longest line of a slice,
+//! `take_lines` the first ones with how many bytes they take, and `count_gaps` counts where lines
+//! were left out between two reports. `CALLING.md` says which laws they use.
 #![tactic(auto)]
 
 mod around;
@@ -23,8 +25,10 @@ mod count;
 mod expression;
 mod filter;
 mod first;
+mod gaps;
 mod json;
 mod last;
+mod longest;
 mod matched;
 mod non_ascii;
 mod numbered;
@@ -33,6 +37,7 @@ mod path;
 mod plain;
 mod prefix;
 mod report;
+mod taken;
 mod totals;
 
 pub use around::first_with_context;
@@ -43,8 +48,10 @@ pub use count::{count_in_reader, count_matching_lines};
 pub use expression::{count_pattern_lines, first_pattern_line};
 pub use filter::lines_that_match;
 pub use first::{first_line_that_matches, first_matches};
+pub use gaps::count_gaps;
 pub use json::json_lines;
 pub use last::last_matches;
+pub use longest::longest_line;
 pub use matched::{first_in_each, matches_in_lines};
 pub use non_ascii::{NonAscii, count_non_ascii_lines};
 pub use numbered::numbered_lines;
@@ -52,4 +59,5 @@ pub use outline::search_outline;
 pub use path::{count_in_path, has_match};
 pub use prefix::count_with_prefix;
 pub use report::{in_context, reporter};
+pub use taken::take_lines;
 pub use totals::count_in_paths;

@@ -3,7 +3,7 @@ ghost use Rattle.std.specs.Prelude.{◌≡◌, ℕ, List, false, true, None, IfO
 ghost use Rattle.grep_searcher.specs.Plans.{Settings};
 ghost use Rattle.grep_searcher.specs.Searches.{searched_bytes};
 ghost use Rattle.grep_searcher.specs.SliceSearches.{is_searched_unchanged};
-ghost use Rattle.uses.specs.PlainSettings.{as_it_is, held_to};
+ghost use Rattle.uses.specs.PlainSettings.{as_it_is, held_to, limited_to};
 
 use grep_searcher::laws::unchanged_is_searched;
 use grep_searcher::{ConfigError, Searcher, SearcherBuilder};
@@ -39,5 +39,17 @@ pub(crate) fn searcher_held_to(alloc: Global, limit: usize) -> Result<Searcher, 
     SearcherBuilder::new()
         .bom_sniffing(false)
         .heap_limit(Some(limit))
+        .build(alloc)
+}
+
+// One that searches up to the last of so many lines that match.
+pub(crate) fn searcher_limited_to(alloc: Global, limit: u64) -> Result<Searcher, ConfigError>
+    ensures settings { IfOk result (λ searcher.
+        searcher ≡ record { settings = limited_to limit; has_buffers = true }) }
+    ensures error { IfErr result (λ e. e ≡ ConfigError.Memory) }
+{
+    SearcherBuilder::new()
+        .bom_sniffing(false)
+        .max_matches(Some(limit))
         .build(alloc)
 }

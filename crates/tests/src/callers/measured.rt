@@ -1,0 +1,58 @@
+//! The callers of `uses` that measure what matches: the longest line, the first lines with how many
+//! bytes they take, and the gaps between what is reported.
+use grep_searcher::sinks::KeptMatch;
+use grep_searcher::{LiteralMatcher, SearchError, Searcher, SearcherBuilder};
+use std::alloc::Global;
+use uses::{count_gaps, longest_line, take_lines};
+
+// Line 1, line 3, line 4 and line 8 have an `a`. Lines 3 and 4 are the longest of them.
+const INPUT: &[u8] = b"a\nlong\nabc\ncab\ny\ny\ny\na";
+
+fn letter() -> LiteralMatcher<'static> {
+    LiteralMatcher::borrowed(b"a")
+}
+
+fn is_line_3(found: &Option<KeptMatch>) -> bool {
+    match found {
+        Some(line) => line.line_number() == Some(3) && line.bytes() == b"abc\n".as_slice(),
+        None => false,
+    }
+}
+
+fn finds_the_longest(alloc: Global) -> Result<bool, SearchError> {
+    let mut searcher = Searcher::new(alloc)?;
+    let found = longest_line(alloc, &mut searcher, letter(), INPUT)?;
+    Ok(is_line_3(&found))
+}
+
+#[test]
+fn longest_lines_are_found(rt: HostRuntime) {
+    assert!(rt; matches!(finds_the_longest(rt.alloc()), Ok(true)));
+}
+
+// Whether this many lines are taken, and bytes.
+fn takes(alloc: Global, limit: u64, lines: usize, bytes: u64) -> Result<bool, SearchError> {
+    let (taken, end) = take_lines(alloc, letter(), INPUT, limit)?;
+    Ok(taken.len() == lines && end == bytes)
+}
+
+#[test]
+fn first_lines_are_taken(rt: HostRuntime) {
+    assert!(rt; matches!(takes(rt.alloc(), 2, 2, 11), Ok(true)));
+}
+
+#[test]
+fn few_lines_are_taken(rt: HostRuntime) {
+    assert!(rt; matches!(takes(rt.alloc(), 9, 4, 22), Ok(true)));
+}
+
+// The lines after line 4 are left out, up to the one before line 8.
+fn counts_one_gap(alloc: Global) -> Result<bool, SearchError> {
+    let mut searcher = SearcherBuilder::new().before_context(1).build(alloc)?;
+    Ok(count_gaps(&mut searcher, letter(), INPUT)? == 1)
+}
+
+#[test]
+fn gaps_are_counted(rt: HostRuntime) {
+    assert!(rt; matches!(counts_one_gap(rt.alloc()), Ok(true)));
+}
