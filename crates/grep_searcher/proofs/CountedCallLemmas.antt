@@ -1,5 +1,5 @@
 -- Sinks that count the calls of one kind.
-use Rattle.std.proofs.Common.{◌≡◌, ℕ, ◌+◌, ◌-◌, ◌^◌, min, Bool, true, false, List, [], ◌∷◌, ◌++◌}
+use Rattle.std.proofs.Common.{◌≡◌, ℕ, ◌+◌, ◌-◌, ◌<◌, ◌≤◌, ◌^◌, min, Bool, true, false, List, [], ◌∷◌, ◌++◌}
 use Rattle.std.proofs.Common.{arith, ap, if◌then◌else◌, ◌∙◌}
 use Rattle.std.proofs.lemmas.List.Sums.{sum_by-append}
 use Rattle.std.specs.Prelude.{cond, count_by}
@@ -7,6 +7,11 @@ use Rattle.grep_definitions.specs.Plans.{Call, finishes, Steps}
 use Rattle.grep_definitions.specs.SearchLaws.{calls_of}
 use Rattle.grep_searcher.specs.CountedCalls.{RunsCountCalls, with_passing}
 use Rattle.grep_searcher.proofs.RunInvariantLemmas.{runs-keep}
+
+-- a count from 0 is exact, if no more is counted than some number that fits in 64 bits
+pub count-exact : (count n most : ℕ) → count ≡ min (0 + n) (2 ^ 64 - 1) → n ≤ most → most < 2 ^ 64
+    → count ≡ n
+count-exact count n most is few fits = omega arith
 
 -- how many of some calls and one more pass
 count-more : (passes : Call → Bool) (before : List Call) (call : Call)
@@ -18,7 +23,7 @@ count-more passes before call =
     ∙ ap (λ n. count_by passes before + n) one
 
 -- a count so far, and one call more
-count-next : (passes : Call → Bool) (first old : ℕ) (before : List Call) (call : Call)
+pub count-next : (passes : Call → Bool) (first old : ℕ) (before : List Call) (call : Call)
     → old ≡ min (first + count_by passes before) (2 ^ 64 - 1)
     → with_passing passes old call
     ≡ min (first + count_by passes (before ++ call ∷ [])) (2 ^ 64 - 1)

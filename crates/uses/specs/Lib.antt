@@ -1,6 +1,8 @@
 pub mod MatchedLines
 pub mod AcrossSettings
+pub mod Differences
 pub mod FirstAround
+pub mod FirstBytes
 pub mod JsonLines
 pub mod LongestLines
 pub mod MarkedBlocks

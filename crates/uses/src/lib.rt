@@ -14,14 +14,17 @@
 //! two marks; `first_in_each` finds the first match in each line that a search reports, and
 //! `count_in_paths` adds up the counts of files. `longest_line` keeps the longest line of a slice,
 //! `take_lines` the first ones with how many bytes they take, and `count_gaps` counts where lines
-//! were left out between two reports. `CALLING.md` says which laws they use.
+//! were left out between two reports. `count_first_bytes` counts lines by their first byte, and
+//! `first_difference` compares the lines of two slices. `CALLING.md` says which laws they use.
 #![tactic(auto)]
 
 mod around;
 mod between;
 mod blocks;
+mod bytes;
 mod collect;
 mod count;
+mod different;
 mod expression;
 mod filter;
 mod first;
@@ -43,8 +46,10 @@ mod totals;
 pub use around::first_with_context;
 pub use between::lines_between;
 pub use blocks::count_blocks;
+pub use bytes::count_first_bytes;
 pub use collect::matching_lines;
 pub use count::{count_in_reader, count_matching_lines};
+pub use different::first_difference;
 pub use expression::{count_pattern_lines, first_pattern_line};
 pub use filter::lines_that_match;
 pub use first::{first_line_that_matches, first_matches};

@@ -1,9 +1,10 @@
 //! The callers of `uses` that measure what matches: the longest line, the first lines with how many
-//! bytes they take, and the gaps between what is reported.
+//! bytes they take, the gaps between what is reported, how many lines begin with each byte, and
+//! where two inputs first differ.
 use grep_searcher::sinks::KeptMatch;
 use grep_searcher::{LiteralMatcher, SearchError, Searcher, SearcherBuilder};
 use std::alloc::Global;
-use uses::{count_gaps, longest_line, take_lines};
+use uses::{count_first_bytes, count_gaps, first_difference, longest_line, take_lines};
 
 // Line 1, line 3, line 4 and line 8 have an `a`. Lines 3 and 4 are the longest of them.
 const INPUT: &[u8] = b"a\nlong\nabc\ncab\ny\ny\ny\na";
@@ -55,4 +56,36 @@ fn counts_one_gap(alloc: Global) -> Result<bool, SearchError> {
 #[test]
 fn gaps_are_counted(rt: HostRuntime) {
     assert!(rt; matches!(counts_one_gap(rt.alloc()), Ok(true)));
+}
+
+// Three lines that match begin with an `a`, and one with a `c`.
+fn counts_bytes(alloc: Global) -> Result<bool, SearchError> {
+    let mut searcher = Searcher::new(alloc)?;
+    let counts = count_first_bytes(&mut searcher, letter(), INPUT)?;
+    Ok(counts[97] == 3 && counts[99] == 1 && counts[121] == 0)
+}
+
+#[test]
+fn first_bytes_are_counted(rt: HostRuntime) {
+    assert!(rt; matches!(counts_bytes(rt.alloc()), Ok(true)));
+}
+
+// Where the lines that match of the input and of another first differ.
+fn differs_at(alloc: Global, other: &[u8], index: Option<usize>) -> Result<bool, SearchError> {
+    Ok(first_difference(alloc, &letter(), INPUT, other)? == index)
+}
+
+#[test]
+fn first_differences_are_found(rt: HostRuntime) {
+    assert!(rt; matches!(differs_at(rt.alloc(), b"a\nx\nab\n", Some(1)), Ok(true)));
+}
+
+#[test]
+fn no_difference_is_found(rt: HostRuntime) {
+    assert!(rt; matches!(differs_at(rt.alloc(), b"a\nabc\ncab\nx\na", None), Ok(true)));
+}
+
+#[test]
+fn missing_lines_differ(rt: HostRuntime) {
+    assert!(rt; matches!(differs_at(rt.alloc(), b"a\nabc\n", Some(2)), Ok(true)));
 }
