@@ -1,7 +1,8 @@
 -- What a sink that counts the matches makes of a run.
 use Rattle.std.proofs.Common.{◌≡◌, ℕ, ◌+◌, ◌<◌, ◌-◌, ◌^◌, min, true, List, [], ◌∷◌, length, refl}
-use Rattle.std.proofs.Common.{◌∙◌, arith, inl, subst, suc, sym, Option}
-use Rattle.grep_definitions.specs.MatchedLines.{calls_of_lines, calls_of_match}
+use Rattle.std.proofs.Common.{◌∙◌, ap, arith, subst}
+use Rattle.std.specs.List.{fold}
+use Rattle.grep_definitions.specs.MatchedLines.{calls_of_match}
 use Rattle.grep_definitions.specs.Plans.{search_plan, AreMade, Call, Settings, all_true}
 use Rattle.grep_definitions.specs.SearchLaws.{match_calls}
 use Rattle.grep_searcher.specs.SinkFolds.{fold_while}
@@ -9,6 +10,7 @@ use Rattle.grep_lines.proofs.LineRangeLemmas.{some-lines}
 use Rattle.grep_matcher.specs.Lines.{lines}
 use Rattle.grep_report.specs.SinkReports.{MatchReport, match_bytes}
 use Rattle.grep_searcher.specs.CountSinks.{count_after, IsCountStep, RunsCount, RunsCountAll}
+use Rattle.grep_searcher.proofs.TakenLineLemmas.{lines-are_taken}
 use Rattle.grep_searcher.proofs.UnitCallLemmas.{matches-are_within_count}
 use Rattle.grep_searcher.proofs.MatchHandlerLemmas.{runs-fit, runs-handle}
 
@@ -20,24 +22,13 @@ fold_while-count_after old (call ∷ later) fits =
     omega (arith, fold_while-count_after (count_after old call) later (omega arith))
 
 -- lines that are counted at once are counted one after another
-lines-counted : (E : Type 0) (settings : Settings) (number : Option ℕ) (index offset : ℕ)
-    (line : List ℕ) (later : List (List ℕ)) (old : ℕ)
-    → AreMade {E = E} IsCountStep settings old (calls_of_lines number index offset (line ∷ later))
-    all_true (min (old + length (line ∷ later)) (2 ^ 64 - 1))
-lines-counted E settings number index offset line [] old = inl (
-  min (old + 1) (2 ^ 64 - 1),
-  ((refl, refl), tt),
-  (refl, refl),
-)
-lines-counted E settings number index offset line (next ∷ later) old = inl (
-  min (old + 1) (2 ^ 64 - 1),
-  ((refl, refl), tt),
-  subst (AreMade {E = E} IsCountStep settings (min (old + 1) (2 ^ 64 - 1))
-      (calls_of_lines number (suc index) (offset + length line) (next ∷ later)) all_true)
-      (omega arith)
-      (lines-counted E settings number (suc index) (offset + length line) next later
-      (min (old + 1) (2 ^ 64 - 1))),
-)
+fold-counted : (lines : List (List ℕ)) (old : ℕ) → 0 < length lines
+    → fold (λ count (line : List ℕ). min (count + 1) (2 ^ 64 - 1)) old lines
+    ≡ min (old + length lines) (2 ^ 64 - 1)
+fold-counted [] old some = absurd (omega arith)
+fold-counted (line ∷ []) old some = refl
+fold-counted (line ∷ next ∷ later) old some =
+    omega (arith, fold-counted (next ∷ later) (min (old + 1) (2 ^ 64 - 1)) (omega arith))
 
 pub match-counted : (E : Type 0) (settings : Settings) (m : MatchReport) (old : ℕ)
     → 0 < length (match_bytes m)
@@ -45,9 +36,12 @@ pub match-counted : (E : Type 0) (settings : Settings) (m : MatchReport) (old : 
     (min (old + length (lines m.terminator (match_bytes m))) (2 ^ 64 - 1))
 match-counted E settings m old some =
     let found = some-lines m.terminator (match_bytes m) some in
-    subst (λ ls. AreMade {E = E} IsCountStep settings old
-    (calls_of_lines m.line_number 0 m.offset ls) all_true (min (old + length ls) (2 ^ 64 - 1)))
-    (sym found.2) (lines-counted E settings m.line_number 0 m.offset found.0 found.1 old)
+    let many : 0 < length (lines m.terminator (match_bytes m)) =
+    omega (arith, ap length found.2) in
+    subst (AreMade {E = E} IsCountStep settings old (calls_of_match m) all_true)
+    (fold-counted (lines m.terminator (match_bytes m)) old many)
+    (lines-are_taken {E = E} IsCountStep (λ count line. min (count + 1) (2 ^ 64 - 1))
+    (λ from at number offset line. ((refl, refl), tt)) settings old m)
 
 pub runs-count : (E : Type 0) → RunsCount E
 runs-count E settings old plan new fits run =

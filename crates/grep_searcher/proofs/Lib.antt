@@ -20,6 +20,7 @@ pub mod LineFilterLemmas
 pub mod MatchHandlerLemmas
 pub mod OrderLemmas
 pub mod PassedCallLemmas
+pub mod PassedLineLemmas
 pub mod QuittingLemmas
 pub mod ReaderSearchLemmas
 pub mod ReadingLemmas
@@ -32,6 +33,7 @@ pub mod SinkFoldLemmas
 pub mod SourceSearchLemmas
 pub mod StreamSearchLemmas
 pub mod StreamViewLemmas
+pub mod TakenLineLemmas
 pub mod UnitCallLemmas
 pub mod UnreadLemmas
 pub mod ViewLemmas

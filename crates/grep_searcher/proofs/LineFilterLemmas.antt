@@ -122,13 +122,13 @@ map-up_to : {X Y : Type 0} (f : X → Y) (limit : Option ℕ) (xs : List X)
 map-up_to f None xs = refl
 map-up_to f (Some m) xs = sym (take-map f m xs)
 
-map-twice : {X Y Z : Type 0} (g : Y → Z) (f : X → Y) (xs : List X)
+pub map-twice : {X Y Z : Type 0} (g : Y → Z) (f : X → Y) (xs : List X)
     → map g (map f xs) ≡ map (λ x. g (f x)) xs
 map-twice g f [] = refl
 map-twice g f (x ∷ xs) = ap (λ ys. g (f x) ∷ ys) (map-twice g f xs)
 
 -- a list is what it has at each of its indices
-map-indices : {X : Type 0} (d : X) (xs : List X)
+pub map-indices : {X : Type 0} (d : X) (xs : List X)
     → map (λ i. slice_index_or xs i d) (range_with_len 0 (length xs)) ≡ xs
 map-indices d xs =
     let same = length-map-range_with_len (λ i. slice_index_or xs i d) 0 (length xs) in

@@ -35,7 +35,7 @@ use Rattle.grep_searcher.specs.Units.{UnitsAreCounted}
 use Rattle.grep_definitions.specs.Plans.{report_surroundings}
 
 -- what is kept of joined lists
-filter-joined : {X : Type 0} (p : X → Bool) (f : ℕ → List X) (i n : ℕ)
+pub filter-joined : {X : Type 0} (p : X → Bool) (f : ℕ → List X) (i n : ℕ)
     → filter p (joined_from f i n) ≡ joined_from (λ j. filter p (f j)) i n
 filter-joined p f i zero = refl
 filter-joined p f i (suc n) =

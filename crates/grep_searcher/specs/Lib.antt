@@ -19,13 +19,16 @@ pub mod LentMatches
 pub mod LineCounts
 pub mod MatchHandlers
 pub mod PassedCalls
+pub mod PassedLines
 pub mod QuittingSinks
 pub mod ReportedLines
 pub mod Rolls
 pub mod RunInvariants
 pub mod SearchBuffers
 pub mod SearchFailures
+pub mod SearchedInputs
 pub mod SinkFolds
+pub mod TakenLines
 pub mod Units
 pub use Rattle.grep_definitions.specs.BuiltSettings
 pub use Rattle.grep_definitions.specs.Plans
@@ -37,6 +40,7 @@ pub use Rattle.grep_definitions.specs.BinaryLaws
 pub use Rattle.grep_definitions.specs.CountLaws
 pub use Rattle.grep_definitions.specs.SinkArguments
 pub use Rattle.grep_definitions.specs.MatchedLines
+pub use Rattle.grep_lines.specs.LineLaws
 pub use Rattle.grep_decode.specs.Labels
 pub use Rattle.grep_decode.specs.Source
 pub use Rattle.grep_matcher.specs.Lawful

@@ -39,7 +39,9 @@ ghost use Rattle.grep_searcher.specs.MatchHandlers.{RunsKeepBytes, RunsKeepFirst
 ghost use Rattle.grep_searcher.specs.MatchHandlers.{RunsKeepFirstLines, RunsKeepLast};
 ghost use Rattle.grep_searcher.specs.PassedCalls.{ClosuresAppend, ClosuresArePassed};
 ghost use Rattle.grep_searcher.specs.PassedCalls.{ClosuresFailPassed, ClosuresKeepCalls};
+ghost use Rattle.grep_searcher.specs.PassedLines.{LinesArePassed, PassedLinesHit};
 ghost use Rattle.grep_searcher.specs.SearchFailures.{ReadersFail, SlicesFail};
+ghost use Rattle.grep_searcher.specs.SearchedInputs.{InputIsSearched};
 ghost use Rattle.grep_searcher.specs.Units.{FirstMatchIsFirstUnit, MatchesAreUnits};
 ghost use Rattle.grep_searcher.specs.Units.{MatchesAreWithinCount, UnitsAreCounted};
 ghost use Rattle.grep_searcher.specs.FileSearches.{IsFileRead};
@@ -63,11 +65,20 @@ pub use grep_definitions::laws::{
     selected_are_reported_across, stop_is_ignored_across, unchanged_is_searched, whole_count,
     whole_count_across,
 };
+pub use grep_lines::laws::{lines_append, lines_are_determined, lines_are_few, lines_join};
 use grep_matcher::Matcher;
 use grep_report::{SinkError, SinkMatch};
 use std::alloc::Allocator;
 use std::io;
 use std::io::Read;
+
+/// Without a label, and if no byte order mark is looked for, or the input begins with none, what is
+/// searched is the input itself. `unchanged_is_searched` says more of such an input.
+pub fn input_is_searched()
+    ensures { InputIsSearched }
+{
+    unchanged_is_searched();
+}
 
 /// Without limit and stop, in a search by line, a line is selected exactly if it hits, and so are
 /// the matched lines: a line hits if whether it matches without its terminator differs from
@@ -94,6 +105,13 @@ pub fn lines_are_filtered()
     ensures every_line { EveryLineHits }
     ensures all_lines { LinesAreListed }
     ensures all_hit { AllLinesHit }
+{}
+
+/// In a search by line under `passthru`, without a limit and a stop, the reports are all lines, in
+/// order, and a report is a match exactly if its line hits.
+pub fn lines_are_passed()
+    ensures lines { LinesArePassed }
+    ensures hits { PassedLinesHit }
 {}
 
 /// In a search by line each line that is reported as a match hits, whatever is set. So without
