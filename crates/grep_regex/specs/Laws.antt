@@ -4,6 +4,7 @@ use Rattle.std.specs.Prelude.{nat_eq, false}
 use Rattle.std.specs.List.{ends_with}
 use Rattle.grep_matcher.specs.declared.line_terminator.LineTerminator.TheVariants.{Crlf}
 use Rattle.grep_regex.specs.Clear.{is_clear}
+use Rattle.grep_regex.specs.Groups.{groups_at}
 use Rattle.grep_regex.specs.Patterns.{first_match_at, leftmost_match_at, written_re}
 use Rattle.grep_regex.specs.Patterns.{excluded_bytes}
 use Rattle.grep_regex.specs.Seen.{seen_bytes}
@@ -39,3 +40,9 @@ LineEndsAreUnseen = (o : Options) (patterns : List (List ℕ)) (line : List ℕ)
     (first_match_at o patterns (line ++ 13 ∷ 10 ∷ []) from ≡ first_match_at o patterns line from)
     × (ends_with nat_eq line (13 ∷ []) ≡ false →
     first_match_at o patterns (line ++ 10 ∷ []) from ≡ first_match_at o patterns line from)
+
+-- the groups of the first match from a position on are those from the start of that match on
+abbrev pub GroupsAreOfFirstMatch : Type 0
+GroupsAreOfFirstMatch = (o : Options) (patterns : List (List ℕ)) (haystack : List ℕ)
+    (from start end : ℕ) → first_match_at o patterns haystack from ≡ Some (start, end) →
+    groups_at o patterns haystack start ≡ groups_at o patterns haystack from

@@ -10,46 +10,57 @@ use Rattle.grep_definitions.specs.Plans.{AreMade, Call, Finish, finishes, IsFini
 use Rattle.grep_definitions.specs.Plans.{Planned, Steps, Settings}
 use Rattle.grep_definitions.specs.SearchLaws.{calls_of, match_calls, match_of, matched_lines}
 use Rattle.grep_definitions.proofs.MatchCallLemmas.{matches-are_matched_lines}
-use Rattle.grep_searcher.specs.AppendedParts.{AppendsParts, CallsAppend, RunsAppend}
+use Rattle.grep_searcher.specs.AppendedParts.{AppendsPartsByState, CallsAppend, RunsAppend}
+use Rattle.grep_searcher.specs.AppendedParts.{RunsAppendPartsByState}
 use Rattle.grep_searcher.specs.AppendedParts.{RunsAppendByState, RunsAppendLines}
 use Rattle.grep_searcher.specs.AppendedParts.{RunsAppendMatches}
 use Rattle.grep_searcher.proofs.MatchHandlerLemmas.{runs-handle}
-
-module _ {S E : Type 0} (step : Steps S E) (X : Type 0) where
-  module _ (kept : S → List X) (part : Call → List X) (by : AppendsParts step X kept part)
-      (settings : Settings)
-      (finish : Finish) (new : S) where
-    abbrev last : Call
-    last = finishes finish.count finish.binary
-
-    made-append : (calls : List Planned) (old : S) (outcome : Outcome E) (mid : S)
-        → AreMade step settings old calls outcome mid → IsFinished step settings outcome mid finish
-        (Ok tt) new → kept new ≡ kept old ++ flat_map part (calls_of calls ++ last ∷ [])
-    made-append [] old outcome mid (is, same) finished =
-        let made = subst (λ o. IsFinished step settings o mid finish (Ok tt) new) is finished in
-        (by mid settings last true new made).1 ∙ ap (λ s. kept s ++ part last) same
-        ∙ ap (λ xs. kept old ++ xs) (sym (append-nil (part last)))
-    made-append (planned ∷ later) old outcome mid (inl (between, made, rest)) finished =
-        let more = flat_map part (calls_of later ++ last ∷ []) in
-        made-append later between outcome mid rest finished
-        ∙ ap (λ k. k ++ more) (by old settings planned.call true between made).1
-        ∙ append_assoc (kept old) (part planned.call) more
-    made-append (planned ∷ later) old outcome mid (inr (inl (is, made))) finished =
-        absurd (false≢true (by old settings planned.call false mid made).0)
-    made-append (planned ∷ later) old outcome mid (inr (inr (e, is, made))) finished =
-        let failed = subst (λ o. IsFinished step settings o mid finish (Ok tt) new) is finished in
-        absurd (let never = failed.0 in cc)
-
-  pub runs-append : RunsAppend step X
-  runs-append kept part by settings old plan new run =
-      made-append kept part by settings plan.finish new plan.calls old run.outcome run.mid run.made
-      run.finished
 
 -- parts that are the same of each call, joined
 pub flat_map-same : {X : Type 0} (f h : Call → List X) → ((call : Call) → f call ≡ h call)
     → (calls : List Call) → flat_map f calls ≡ flat_map h calls
 flat_map-same f h same [] = refl
 flat_map-same f h same (call ∷ later) = rw (same call, flat_map-same f h same later) refl
+
+module _ {S E : Type 0} (step : Steps S E) (X : Type 0) where
+  module _ (kept : S → List X) (part : S → Call → List X)
+      (by : AppendsPartsByState step X kept part) (settings : Settings) (finish : Finish) (new : S)
+    where
+      abbrev last : Call
+      last = finishes finish.count finish.binary
+
+      made-append : (calls : List Planned) (old : S) (outcome : Outcome E) (mid : S)
+          → AreMade step settings old calls outcome mid
+          → IsFinished step settings outcome mid finish (Ok tt) new
+          → kept new ≡ kept old ++ flat_map (part old) (calls_of calls ++ last ∷ [])
+      made-append [] old outcome mid (is, same) finished =
+          let made = subst (λ o. IsFinished step settings o mid finish (Ok tt) new) is finished in
+          (by mid settings last true new made).1 ∙ ap (λ s. kept s ++ part s last) same
+          ∙ ap (λ xs. kept old ++ xs) (sym (append-nil (part old last)))
+      made-append (planned ∷ later) old outcome mid (inl (between, made, rest)) finished =
+          let here = by old settings planned.call true between made in
+          let calls = calls_of later ++ last ∷ [] in
+          made-append later between outcome mid rest finished
+          ∙ ap (λ parts. kept between ++ parts)
+          (flat_map-same (part between) (part old) here.2 calls)
+          ∙ ap (λ k. k ++ flat_map (part old) calls) here.1
+          ∙ append_assoc (kept old) (part old planned.call) (flat_map (part old) calls)
+      made-append (planned ∷ later) old outcome mid (inr (inl (is, made))) finished =
+          absurd (false≢true (by old settings planned.call false mid made).0)
+      made-append (planned ∷ later) old outcome mid (inr (inr (e, is, made))) finished =
+          let failed = subst (λ o. IsFinished step settings o mid finish (Ok tt) new) is finished in
+          absurd (let never = failed.0 in cc)
+
+  pub runs-append_parts_by_state : RunsAppendPartsByState step X
+  runs-append_parts_by_state kept part by settings old plan new run =
+      made-append kept part by settings plan.finish new plan.calls old run.outcome run.mid run.made
+      run.finished
+
+  pub runs-append : RunsAppend step X
+  runs-append kept part by settings old plan new run =
+      runs-append_parts_by_state kept (λ _. part) (λ from at call b after made.
+      let here = by from at call b after made in (here.0, here.1, λ other. refl)) settings old plan
+      new run
 
 module _ {H E : Type 0} (goes : H → Call → Bool) (next : H → Call → H) (fails : H → Call → E → H
     → Type 0)

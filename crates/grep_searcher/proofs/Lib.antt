@@ -18,6 +18,7 @@ pub mod LentMatchLemmas
 pub mod LineCountLemmas
 pub mod LineFilterLemmas
 pub mod MatchHandlerLemmas
+pub mod MatcherFailureLemmas
 pub mod OrderLemmas
 pub mod PassedCallLemmas
 pub mod PassedLineLemmas

@@ -12,10 +12,12 @@ use Rattle.grep_definitions.specs.Plans.{Settings}
 use Rattle.grep_definitions.specs.SearchLaws.{calls_of}
 use Rattle.grep_searcher.specs.AppendedParts.{run_calls}
 use Rattle.grep_searcher.specs.declared.sinks.calls.SinkCall.{SinkCall}
-use Rattle.grep_searcher.specs.PassedCalls.{AppendsPassed, ArePassed, ClosuresAppend}
+use Rattle.grep_searcher.specs.PassedCalls.{AppendsPassedByState, ArePassed, ClosuresAppend}
+use Rattle.grep_searcher.specs.PassedCalls.{ClosuresAppendPassedByState}
 use Rattle.grep_searcher.specs.PassedCalls.{ClosuresArePassed, ClosuresFailPassed}
 use Rattle.grep_searcher.specs.PassedCalls.{ClosuresKeepCalls, is_finish, IsPassed, IsPassedStep}
 use Rattle.grep_searcher.specs.PassedCalls.{PassedSteps}
+use Rattle.grep_searcher.proofs.AppendedPartLemmas.{flat_map-same}
 
 module _ {F : Type 0} (call : F → SinkCall → Result Bool Error → F → Type 0) {S : Type 0}
     (closure : S → F) where
@@ -57,18 +59,19 @@ module _ {F : Type 0} (call : F → SinkCall → Result Bool Error → F → Typ
       (closure new) failed
 
 module _ {F : Type 0} (call : F → SinkCall → Result Bool Error → F → Type 0) {X : Type 0}
-    (part : Call → List X)
-    (name : F → ℕ) (kept : F → List X) (by : AppendsPassed call part name kept) where
-  -- what is kept after a call
+    (part : F → Call → List X)
+    (name : F → ℕ) (kept : F → List X) (by : AppendsPassedByState call part name kept) where
+  -- what is kept after a call, and that no part has changed
   abbrev Appended : F → Call → F → Type 0
-  Appended old made new = (name new ≡ name old) × (kept new ≡ kept old ++ part made)
+  Appended old made new = (name new ≡ name old) × (kept new ≡ kept old ++ part old made)
+      × ((other : Call) → part new other ≡ part old other)
 
   passed-one : (old : F) (made : Call) (b : Bool) (new : F) → IsPassed call old made (Ok b) new
       → (is_finish made ≡ false → b ≡ true) × Appended old made new
   passed-one old made b new (passed, is, called) =
       let here = by old passed b new called in (
         (λ other. here.0 (ap is_finish is ∙ other)),
-        (here.1, here.2 ∙ ap (λ m. kept old ++ part m) is),
+        (here.1, here.2 ∙ ap (λ m. kept old ++ part old m) is, here.3),
       )
 
   passed-step : (old : F) (made : Call) (b : Bool) (new : F) → IsPassedStep call old made (Ok b) new
@@ -86,26 +89,37 @@ module _ {F : Type 0} (call : F → SinkCall → Result Bool Error → F → Typ
 
   passed-all : (calls : List Planned) (finish : Finish) (old new : F)
       → ArePassed call old calls finish new → (name new ≡ name old) × (kept new ≡ kept old
-      ++ flat_map part (calls_of calls ++ finishes finish.count finish.binary ∷ []))
+      ++ flat_map (part old) (calls_of calls ++ finishes finish.count finish.binary ∷ []))
   passed-all [] finish old new (returned, h) =
       let last = finishes finish.count finish.binary in
       let end = (passed-one old last returned new h).1 in
-      (end.0, end.1 ∙ ap (λ xs. kept old ++ xs) (sym (append-nil (part last))))
+      (end.0, end.1 ∙ ap (λ xs. kept old ++ xs) (sym (append-nil (part old last))))
   passed-all (planned ∷ later) finish old new (inl (mid, made, rest)) =
       let here = (passed-step old planned.call true mid made).1 in
       let others = passed-all later finish mid new rest in
-      let more = flat_map part (calls_of later ++ finishes finish.count finish.binary ∷ []) in (
+      let calls = calls_of later ++ finishes finish.count finish.binary ∷ [] in
+      let more = flat_map (part old) calls in (
         others.0 ∙ here.0,
-        others.1 ∙ ap (λ k. k ++ more) here.1 ∙ append_assoc (kept old) (part planned.call) more,
+        others.1 ∙ ap (λ parts. kept mid ++ parts)
+            (flat_map-same (part mid) (part old) here.2 calls)
+            ∙ ap (λ k. k ++ more) here.1 ∙ append_assoc (kept old) (part old planned.call) more,
       )
   passed-all (planned ∷ later) finish old new (inr (mid, made, end)) =
       absurd (false≢true (passed-step old planned.call false mid made).0)
 
+pub closures-append_by_state : {F : Type 0}
+    (call : F → SinkCall → Result Bool Error → F → Type 0) {S : Type 0} (X : Type 0)
+    (closure : S → F) → ClosuresAppendPassedByState call X closure
+closures-append_by_state call X closure part name kept by settings old plan new run =
+    passed-all call part name kept by plan.calls plan.finish (closure old) (closure new)
+    (closures-are_passed call closure settings old plan new run)
+
 pub closures-append : {F : Type 0} (call : F → SinkCall → Result Bool Error → F → Type 0)
     {S : Type 0} (X : Type 0) (closure : S → F) → ClosuresAppend call X closure
 closures-append call X closure part name kept by settings old plan new run =
-    passed-all call part name kept by plan.calls plan.finish (closure old) (closure new)
-    (closures-are_passed call closure settings old plan new run)
+    closures-append_by_state call X closure (λ _. part) name kept (λ from passed b after called.
+    let here = by from passed b after called in (here.0, here.1, here.2, λ other. refl)) settings
+    old plan new run
 
 -- a list is its elements, one after another
 flat_map-ones : (calls : List Call) → flat_map (λ made. made ∷ []) calls ≡ calls

@@ -28,6 +28,21 @@ module _ {S E : Type 0} (step : Steps S E) (X : Type 0) where
       → IsRun step settings old plan (Ok tt) new
       → kept new ≡ kept old ++ flat_map part (run_calls plan)
 
+  -- the part may also depend on the state, as far as no call changes what it is
+  abbrev pub AppendsPartsByState : (S → List X) → (S → Call → List X) → Type 0
+  AppendsPartsByState kept part =
+      (old : S) (settings : Settings) (call : Call) (b : Bool) (new : S)
+      → step old settings call (Ok b) new
+      → (b ≡ true) × (kept new ≡ kept old ++ part old call)
+      × ((other : Call) → part new other ≡ part old other)
+
+  abbrev pub RunsAppendPartsByState : Type 0
+  RunsAppendPartsByState =
+      (kept : S → List X) (part : S → Call → List X) → AppendsPartsByState kept part
+      → (settings : Settings) (old : S) (plan : Plan) (new : S)
+      → IsRun step settings old plan (Ok tt) new
+      → kept new ≡ kept old ++ flat_map (part old) (run_calls plan)
+
 module _ {H E : Type 0} (goes : H → Call → Bool) (next : H → Call → H)
     (fails : H → Call → E → H → Type 0) (X : Type 0) where
   -- each match lets the search go on, and appends a part for it to what is kept

@@ -18,6 +18,7 @@ pub mod KeptReports
 pub mod LentMatches
 pub mod LineCounts
 pub mod MatchHandlers
+pub mod MatcherFailures
 pub mod PassedCalls
 pub mod PassedLines
 pub mod QuittingSinks

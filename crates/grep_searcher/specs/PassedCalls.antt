@@ -86,6 +86,25 @@ module _ {F : Type 0} (call : F → SinkCall → Result Bool Error → F → Typ
       → (name (closure new) ≡ name (closure old))
       × (kept (closure new) ≡ kept (closure old) ++ flat_map part (run_calls plan))
 
+  -- the part may also depend on what the closure has captured, as far as no call changes what it is
+  abbrev pub AppendsPassedByState : {X : Type 0} → (F → Call → List X) → (F → ℕ) → (F → List X)
+      → Type 0
+  AppendsPassedByState part name kept =
+      (old : F) (passed : SinkCall) (b : Bool) (new : F) → call old passed (Ok b) new
+      → (is_finish (passed_call passed) ≡ false → b ≡ true) × (name new ≡ name old)
+      × (kept new ≡ kept old ++ part old (passed_call passed))
+      × ((other : Call) → part new other ≡ part old other)
+
+  abbrev pub ClosuresAppendPassedByState : {S : Type 0} → Type 0 → (S → F) → Type 0
+  ClosuresAppendPassedByState {S} X closure =
+      (part : F → Call → List X) (name : F → ℕ) (kept : F → List X)
+      → AppendsPassedByState part name kept
+      → (settings : Settings) (old : S) (plan : Plan) (new : S)
+      → IsRun (PassedSteps closure) settings old plan (Ok tt) new
+      → (name (closure new) ≡ name (closure old))
+      × (kept (closure new)
+      ≡ kept (closure old) ++ flat_map (part (closure old)) (run_calls plan))
+
   -- if it keeps the calls themselves, these are added
   abbrev pub KeepsPassed : (F → ℕ) → (F → List Call) → Type 0
   KeepsPassed name kept = AppendsPassed (λ made. made ∷ []) name kept

@@ -7,6 +7,7 @@ ghost use Rattle.grep_searcher.specs.ClosureSinks.{IsLossyText, IsWholeText};
 ghost use Rattle.grep_searcher.specs.AppendedItems.{RunsAppendItems, RunsEnd};
 ghost use Rattle.grep_searcher.specs.AppendedParts.{CallsAppend, RunsAppend, RunsAppendByState};
 ghost use Rattle.grep_searcher.specs.AppendedParts.{RunsAppendLines, RunsAppendMatches};
+ghost use Rattle.grep_searcher.specs.AppendedParts.{RunsAppendPartsByState};
 ghost use Rattle.grep_searcher.specs.BoundedReads.{EndedKnownReadersStop, EndedReadersStop};
 ghost use Rattle.grep_searcher.specs.BoundedReads.{FirstEnds, ReadersFindLines};
 ghost use Rattle.grep_searcher.specs.ByteCounts.{CountsToLimit};
@@ -37,7 +38,9 @@ ghost use Rattle.grep_searcher.specs.MatchHandlers.{RunsFindSelected, RunsFindAc
 ghost use Rattle.grep_searcher.specs.MatchHandlers.{RunsCollectLines, RunsCollectUntil};
 ghost use Rattle.grep_searcher.specs.MatchHandlers.{RunsKeepBytes, RunsKeepFirst};
 ghost use Rattle.grep_searcher.specs.MatchHandlers.{RunsKeepFirstLines, RunsKeepLast};
-ghost use Rattle.grep_searcher.specs.PassedCalls.{ClosuresAppend, ClosuresArePassed};
+ghost use Rattle.grep_searcher.specs.MatcherFailures.{ReadersFailFor, SlicesFailFor};
+ghost use Rattle.grep_searcher.specs.PassedCalls.{ClosuresAppend, ClosuresAppendPassedByState};
+ghost use Rattle.grep_searcher.specs.PassedCalls.{ClosuresArePassed};
 ghost use Rattle.grep_searcher.specs.PassedCalls.{ClosuresFailPassed, ClosuresKeepCalls};
 ghost use Rattle.grep_searcher.specs.PassedLines.{LinesArePassed, PassedLinesHit};
 ghost use Rattle.grep_searcher.specs.SearchFailures.{ReadersFail, SlicesFail};
@@ -176,6 +179,13 @@ pub fn runs_fold_matches<S: Sink>()
 /// run that ended in `Ok` appends the parts of all calls, in order. `X` is what is appended.
 pub fn runs_append_parts<S: Sink, X>()
     ensures { RunsAppend S.step X }
+{}
+
+/// The part of a call may also depend on what of the sink no call changes, as on a matcher that it
+/// has: then a run that ended in `Ok` appends the parts of all calls, in order, as of the state before
+/// the run. `X` is what is appended.
+pub fn runs_append_by_state<S: Sink, X>()
+    ensures { RunsAppendPartsByState S.step X }
 {}
 
 /// If each call of a sink that succeeds goes on, and each match appends one item to what the sink
@@ -338,11 +348,13 @@ pub fn matches_are_lent<F: FnMut(&SinkMatch<'_>) -> Result<bool, io::Error>, X>(
 /// the first at which it returned false, and then the end. If each call of the closure that returns
 /// goes on, but for the end, and appends a part for what it is passed to what is kept, through one
 /// reference, the run appends the parts of all calls of the plan, and of the end; or these calls
-/// themselves. An error of a call is the closure's. Pass the sink, since a closure's type has no
+/// themselves. The part may depend on what no call changes of what the closure has captured. An
+/// error of a call is the closure's. Pass the sink, since a closure's type has no
 /// name. `X` is what is appended.
 pub fn calls_are_passed<F: FnMut(SinkCall<'_>) -> Result<bool, io::Error>, X>(_: &Calls<F>)
     ensures passed { ClosuresArePassed F.step (λ (s : Calls F). s.0) }
     ensures appended { ClosuresAppend F.step X (λ (s : Calls F). s.0) }
+    ensures by_state { ClosuresAppendPassedByState F.step X (λ (s : Calls F). s.0) }
     ensures kept { ClosuresKeepCalls F.step (λ (s : Calls F). s.0) }
     ensures failed { ClosuresFailPassed F.step (λ (s : Calls F). s.0) }
 {}
@@ -426,6 +438,27 @@ pub fn readers_fail<A: Allocator + Copy, M: Matcher, R: Source, S: Sink>(_: &S)
 where
     S::Error: SinkError<A>,
     ensures { (matcher : M) → ReadersFail S.step
+        (makers_of M.Error.output S.Error.makers) (M.facts matcher)
+        R.remaining R.step }
+{}
+
+/// With a lawful matcher that may fail, as each one of a regular expression may, and if the search
+/// isn't refused, an error of a search of a slice is that of a step of the sink, or it is made of the
+/// matcher's error, as a message, or of the reason why the slice, which has to be decoded, wasn't
+/// decoded to its end. Pass the sink, since a closure's type has no name.
+pub fn slices_fail_for<A: Allocator + Copy, M: Matcher, S: Sink>(_: &S)
+where
+    S::Error: SinkError<A>,
+    ensures { (matcher : M) → SlicesFailFor S.step
+        (makers_of M.Error.output S.Error.makers) (M.facts matcher) }
+{}
+
+/// What `slices_fail_for` says of a slice, of a reader: in place of decoding, not all of it was read.
+/// Pass the sink, since a closure's type has no name.
+pub fn readers_fail_for<A: Allocator + Copy, M: Matcher, R: Source, S: Sink>(_: &S)
+where
+    S::Error: SinkError<A>,
+    ensures { (matcher : M) → ReadersFailFor S.step
         (makers_of M.Error.output S.Error.makers) (M.facts matcher)
         R.remaining R.step }
 {}

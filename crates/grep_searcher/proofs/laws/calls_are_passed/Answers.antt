@@ -1,4 +1,5 @@
-use Rattle.grep_searcher.proofs.PassedCallLemmas.{closures-append, closures-are_passed}
+use Rattle.grep_searcher.proofs.PassedCallLemmas.{closures-append, closures-append_by_state}
+use Rattle.grep_searcher.proofs.PassedCallLemmas.{closures-are_passed}
 use Rattle.grep_searcher.proofs.PassedCallLemmas.{closures-fail_passed, closures-keep_passed}
 use Rattle.grep_searcher.proofs.laws.calls_are_passed.Goals as goal
 
@@ -13,3 +14,6 @@ returns-clause-kept g c = closures-keep_passed (goal.F-step g) _
 
 pub returns-clause-failed : goal.returns-clause-failed
 returns-clause-failed g c = closures-fail_passed (goal.F-step g) _
+
+pub returns-clause-by_state : goal.returns-clause-by_state
+returns-clause-by_state g c = closures-append_by_state (goal.F-step g) _ _

@@ -1,0 +1,49 @@
+-- Why a search fails, also if its matcher may fail.
+use Rattle.std.specs.Prelude.{◌≡◌, ◌⊎◌, ℕ, Bool, List, Option, None, Err}
+use Rattle.std.specs.declared.io.Error.{Error}
+use Rattle.grep_decode.specs.Source.{ReadResult}
+use Rattle.grep_matcher.specs.Meanings.{MatcherFacts}
+use Rattle.grep_report.specs.ErrorMakers.{ErrorMakers}
+use Rattle.grep_definitions.specs.Plans.{IsLawful, refusal_of, SearcherState, Settings, Steps}
+use Rattle.grep_definitions.specs.Searches.{IsReaderSearched, IsUnread}
+use Rattle.grep_definitions.specs.SliceSearches.{IsSliceSearched, IsUndecoded}
+use Rattle.grep_searcher.specs.SinkFolds.{FailsAtStep}
+
+-- the matcher is lawful for the search, which isn't refused; the matcher may fail
+pub record IsLawfulSearch {F : Type 0} (matcher : MatcherFacts F) (settings : Settings)
+    : Type 0 where
+  pub lawful : IsLawful matcher settings
+  pub allowed : refusal_of settings matcher.meaning ≡ None
+
+-- the matcher failed at a question, and the error is made of its error, as a message
+abbrev pub FailsAtQuestion : {E F : Type 0} → ErrorMakers F E → MatcherFacts F → E → Type 0
+FailsAtQuestion {E} {F} errors matcher e =
+    (haystack : List ℕ) × (error : F) × matcher.fails haystack error × errors.is_message error e
+
+module _ {S E F : Type 0} (step : Steps S E) (errors : ErrorMakers F E)
+    (matcher : MatcherFacts F) where
+  -- an error of a search of a slice is that of a step of the sink, or of a question, or the slice
+  -- has to be decoded and not all of it was
+  abbrev pub SlicesFailFor : Type 0
+  SlicesFailFor =
+      (state : SearcherState) (input : List ℕ) (old : S) (e : E) (new : S)
+      → IsLawfulSearch matcher state.settings
+      → IsSliceSearched step errors matcher state input old (Err e) new
+      → FailsAtStep step errors matcher state.settings e new
+      ⊎ (FailsAtQuestion errors matcher e
+      ⊎ ((begun : Bool) × (seen : List ℕ) × (error : Error)
+      × IsUndecoded state matcher.meaning input begun seen error × errors.is_io error e))
+
+  -- and one of a reader that of a step, or of a question, or the reader wasn't read to its end
+  abbrev pub ReadersFailFor : {R : Type 0} → (R → Option (List ℕ)) → (R → ReadResult → R → Type 0)
+      → Type 0
+  ReadersFailFor {R} remaining read_step =
+      (state : SearcherState) (reader : R) (old : S) (e : E) (reader' : R) (new : S)
+      → IsLawfulSearch matcher state.settings
+      → IsReaderSearched remaining read_step step errors matcher state reader old
+      (Err e) reader' new
+      → FailsAtStep step errors matcher state.settings e new
+      ⊎ (FailsAtQuestion errors matcher e
+      ⊎ ((begun : Bool) × (seen : List ℕ) × (error : Error)
+      × IsUnread remaining read_step state matcher.meaning reader begun seen error reader'
+      × errors.is_io error e))
