@@ -37,7 +37,8 @@ items-of : {X : Type 0} (item : Call → X) (calls : List Call) (last : Call) �
 items-of item [] last none = rw none refl
 items-of item (call ∷ later) last none = go (is_match call) (items-of item later last none)
   where
-    go : (b : Bool) → flat_map (item_at item) (later ++ last ∷ []) ≡ map item (filter is_match later)
+    go : (b : Bool)
+        → flat_map (item_at item) (later ++ last ∷ []) ≡ map item (filter is_match later)
         → (if b then item call ∷ [] else []) ++ flat_map (item_at item) (later ++ last ∷ [])
         ≡ map item (if b then call ∷ filter is_match later else filter is_match later)
     go true rest = ap (λ items. item call ∷ items) rest

@@ -2,7 +2,8 @@
 use Rattle.std.proofs.Common.{◌≡◌, ℕ, zero, suc, ◌+◌, ◌-◌, ◌<◌, ◌≤◌, Bool, true, false, ◌&&◌}
 use Rattle.std.proofs.Common.{List, [], ◌∷◌, ◌++◌, length, map, take, Option, Some, None, refl, sym}
 use Rattle.std.proofs.Common.{ap, ◌∙◌, arith, ⊎_elim, min, inr, if◌then◌else◌}
-use Rattle.std.proofs.lemmas.Bool.{and_parts, cases_lt, le-ltb, lt-ltb, ltb-false, ltb-true, not-true}
+use Rattle.std.proofs.lemmas.Bool.{and_parts, cases_lt, le-ltb, lt-ltb, ltb-false, ltb-true}
+use Rattle.std.proofs.lemmas.Bool.{not-true}
 use Rattle.std.proofs.lemmas.Option.{slice_get-map, slice_get_past}
 use Rattle.std.specs.Prelude.{filter, nat_lt, slice_get}
 use Rattle.std.specs.List.{range_with_len}
@@ -10,7 +11,8 @@ use Rattle.std.specs.Option.{option_map, unwrap_or}
 use Rattle.grep_matcher.specs.Lines.{byte_of}
 use Rattle.grep_matcher.specs.Meanings.{Meaning}
 use Rattle.grep_matcher.proofs.LineStartLemmas.{line_start-last, line_start-more}
-use Rattle.grep_definitions.specs.Plans.{at_most, count_below, end_by_stop, fills_limit, first_below, has_room, is_below}
+use Rattle.grep_definitions.specs.Plans.{at_most, count_below, end_by_stop, fills_limit}
+use Rattle.grep_definitions.specs.Plans.{first_below, has_room, is_below}
 use Rattle.grep_definitions.specs.Plans.{hits, is_across, is_chosen, joined_from, line_count, Plan}
 use Rattle.grep_definitions.specs.Plans.{reports_end, Settings, start}
 use Rattle.grep_definitions.specs.SearchLaws.{match_of, reported_to}
@@ -33,7 +35,8 @@ slice_get-after : {X : Type 0} (front back : List X) → slice_get (front ++ bac
 slice_get-after [] back = refl
 slice_get-after (x ∷ front) back = slice_get-after front back
 
-slice_get-first : {X : Type 0} (i : ℕ) (xs : List X) → slice_get (take (suc i) xs) i ≡ slice_get xs i
+slice_get-first : {X : Type 0} (i : ℕ) (xs : List X)
+    → slice_get (take (suc i) xs) i ≡ slice_get xs i
 slice_get-first zero [] = refl
 slice_get-first zero (x ∷ xs) = refl
 slice_get-first (suc i) [] = refl
@@ -73,8 +76,10 @@ count_below-find p (suc n) l more = go (p n) refl more (λ less. count_below-fin
 -- ---- the line that fills the limit
 
 -- the bound by the limit, without `passthru`: where the line is that fills it, if it isn't 0
-bound-filled : (passthru room : Bool) (after : ℕ) (found : Option ℕ) → passthru ≡ false → room ≡ true
-    → (if passthru then None else (if room then option_map (λ m. suc (m + after)) found else Some 0))
+bound-filled : (passthru room : Bool) (after : ℕ) (found : Option ℕ)
+    → passthru ≡ false → room ≡ true
+    → (if passthru then None
+    else (if room then option_map (λ m. suc (m + after)) found else Some 0))
     ≡ option_map (λ m. suc (m + after)) found
 bound-filled passthru room after found selective some = rw (selective, some) refl
 
@@ -132,7 +137,8 @@ module _ (k : Settings) (meaning : Meaning) (bytes : List ℕ) (l : ℕ) (by : I
 
     -- one more than the last line that may be reported
     end-is : (found : Option ℕ) → first_below fills n ≡ found
-        → reports_end k meaning bytes ≡ at_most (option_map (λ m. suc (m + k.after_context)) found) n
+        → reports_end k meaning bytes
+        ≡ at_most (option_map (λ m. suc (m + k.after_context)) found) n
     end-is found is =
         let room : has_room k 0 ≡ true = ap (is_below 0) by.limited ∙ lt-ltb 0 (suc l) (omega arith) in
         ap (λ bound. at_most bound (at_most (end_by_stop k meaning bytes) n))

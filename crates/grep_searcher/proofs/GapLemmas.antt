@@ -189,7 +189,8 @@ kind-other false false t false true is = refl
 kind-other false false t false false is = cc
 
 -- it is reported if it is selected, in the context after a selected line, or under `passthru`
-kind-some : (a b t c d : Bool) → (a ≡ true) ⊎ ((b ≡ true) ⊎ (d ≡ true)) → is_some (if a then Some matched
+kind-some : (a b t c d : Bool) → (a ≡ true) ⊎ ((b ≡ true) ⊎ (d ≡ true))
+    → is_some (if a then Some matched
     else (if b then Some (if t then matched else in_context After)
     else (if c then Some (in_context Before)
     else (if d then Some (in_context Other) else None)))) ≡ true

@@ -7,7 +7,8 @@ use Rattle.grep_decode.specs.Source.{ReadResult}
 use Rattle.grep_matcher.specs.Meanings.{MatcherFacts}
 use Rattle.grep_report.specs.ErrorMakers.{ErrorMakers}
 use Rattle.grep_definitions.specs.Plans.{Outcome, Plan, Planned, Settings, Steps}
-use Rattle.grep_definitions.specs.Searches.{IsRead, IsSearchOf, IsUnlessRefusedBy, look_of, plan_with}
+use Rattle.grep_definitions.specs.Searches.{IsRead, IsSearchOf, IsUnlessRefusedBy, look_of}
+use Rattle.grep_definitions.specs.Searches.{plan_with}
 use Rattle.grep_definitions.specs.Searches.{asked, Points, ran}
 use Rattle.grep_definitions.specs.SliceSearches.{is_searched_unchanged, IsSliceRead, IsSliceSearch}
 use Rattle.grep_definitions.specs.SliceSearches.{IsSliceSearchedIf, IsUndecoded}

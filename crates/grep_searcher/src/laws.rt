@@ -139,19 +139,19 @@ pub fn matches_are_within_count()
     ensures { MatchesAreWithinCount }
 {}
 
-/// By line, with a context before or after matches, the calls of a plan are `begin` and the reports,
-/// with a break in each gap between two: if the second begins after the end of the first. So there
-/// are as many breaks as gaps. With any settings there are at most as many as the byte count of the
-/// whole plan, which is at most as many as there are bytes.
+/// By line, with a context before or after matches, the calls of a plan are `begin` and the
+/// reports, with a break in each gap between two: if the second begins after the end of the first.
+/// So there are as many breaks as gaps. With any settings there are at most as many as the byte
+/// count of the whole plan, which is at most as many as there are bytes.
 pub fn breaks_are_gaps()
     ensures calls { BreaksAreGaps }
     ensures counted { BreaksAreCounted }
     ensures few { BreaksAreFew }
 {}
 
-/// By line, under a limit, without a stop, a context after matches and `passthru`, the byte count of
-/// the whole plan is where the line ends that fills the limit; if fewer lines hit, it is the length
-/// of the bytes, and at the limit 0 it is 0.
+/// By line, under a limit, without a stop, a context after matches and `passthru`, the byte count
+/// of the whole plan is where the line ends that fills the limit; if fewer lines hit, it is the
+/// length of the bytes, and at the limit 0 it is 0.
 pub fn counts_to_limit()
     ensures { CountsToLimit }
 {}
@@ -182,8 +182,8 @@ pub fn runs_append_parts<S: Sink, X>()
 {}
 
 /// The part of a call may also depend on what of the sink no call changes, as on a matcher that it
-/// has: then a run that ended in `Ok` appends the parts of all calls, in order, as of the state before
-/// the run. `X` is what is appended.
+/// has: then a run that ended in `Ok` appends the parts of all calls, in order, as of the state
+/// before the run. `X` is what is appended.
 pub fn runs_append_by_state<S: Sink, X>()
     ensures { RunsAppendPartsByState S.step X }
 {}
@@ -210,8 +210,8 @@ pub fn runs_count_matches<E>()
 {}
 
 /// If each call of a sink that succeeds goes on, and one that passes a test adds 1 to what the sink
-/// counts, up to the largest `u64`, and no other does, as `finish`, then a run that ended in `Ok` adds
-/// how many of the planned calls pass.
+/// counts, up to the largest `u64`, and no other does, as `finish`, then a run that ended in `Ok`
+/// adds how many of the planned calls pass.
 pub fn runs_count_calls<S: Sink>()
     ensures { RunsCountCalls S.step }
 {}
@@ -443,9 +443,9 @@ where
 {}
 
 /// With a lawful matcher that may fail, as each one of a regular expression may, and if the search
-/// isn't refused, an error of a search of a slice is that of a step of the sink, or it is made of the
-/// matcher's error, as a message, or of the reason why the slice, which has to be decoded, wasn't
-/// decoded to its end. Pass the sink, since a closure's type has no name.
+/// isn't refused, an error of a search of a slice is that of a step of the sink, or it is made of
+/// the matcher's error, as a message, or of the reason why the slice, which has to be decoded,
+/// wasn't decoded to its end. Pass the sink, since a closure's type has no name.
 pub fn slices_fail_for<A: Allocator + Copy, M: Matcher, S: Sink>(_: &S)
 where
     S::Error: SinkError<A>,
@@ -453,8 +453,8 @@ where
         (makers_of M.Error.output S.Error.makers) (M.facts matcher) }
 {}
 
-/// What `slices_fail_for` says of a slice, of a reader: in place of decoding, not all of it was read.
-/// Pass the sink, since a closure's type has no name.
+/// What `slices_fail_for` says of a slice, of a reader: in place of decoding, not all of it was
+/// read. Pass the sink, since a closure's type has no name.
 pub fn readers_fail_for<A: Allocator + Copy, M: Matcher, R: Source, S: Sink>(_: &S)
 where
     S::Error: SinkError<A>,

@@ -13,9 +13,10 @@ use crate::filter::lines_that_match;
 use grep_searcher::{Matcher, SearchError};
 use std::alloc::Global;
 
-/// Returns at which index the lines of `left` in which a matcher has a match first differ from those
-/// of `right`, with their terminators, counted from 0 among these lines; `None` if they are the same.
-/// If one input has fewer of them, and all of them are those of the other, it is how many it has.
+/// Returns at which index the lines of `left` in which a matcher has a match first differ from
+/// those of `right`, with their terminators, counted from 0 among these lines; `None` if they are
+/// the same. If one input has fewer of them, and all of them are those of the other, it is how many
+/// it has.
 ///
 /// That is promised for a matcher that is lawful for a line feed. An error is one of
 /// `lines_that_match`.

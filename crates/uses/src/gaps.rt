@@ -17,8 +17,8 @@ use std::marker::Model;
 /// there. Without contexts there is no such place.
 ///
 /// That is promised of a search by line without binary detection, with a matcher that is lawful for
-/// the searcher's terminator. An error is made of the matcher's, of a configuration that the searcher
-/// refuses, or of why bytes that have to be decoded weren't decoded to their end.
+/// the searcher's terminator. An error is made of the matcher's, of a configuration that the
+/// searcher refuses, or of why bytes that have to be decoded weren't decoded to their end.
 pub fn count_gaps<M: Matcher + Drop>(
     searcher: &mut Searcher,
     matcher: M,
@@ -68,7 +68,8 @@ impl Sink for Breaks {
     type Error = SearchError;
 
     ghost step = { λ old _ call result new. MatchResult result
-        (λ goes. (goes ≡ true) × (new ≡ with_passing is_break old call) × FitsAtEnd call) (λ _. ⊥) };
+        (λ goes. (goes ≡ true) × (new ≡ with_passing is_break old call) × FitsAtEnd call)
+        (λ _. ⊥) };
 
     ghost may_call = { λ _. Unit {0} };
 

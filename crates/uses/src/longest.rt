@@ -1,13 +1,16 @@
 //! The longest line that matches.
 ghost use Rattle.std.specs.Prelude.{◌≡◌, ◌⊎◌, true, IfOk, IfErr};
+ghost use Rattle.grep_searcher.specs.ErrorMakers.{makers_of};
 ghost use Rattle.grep_searcher.specs.HitLines.{IsFilter, kept_hits};
+ghost use Rattle.grep_searcher.specs.KeptFirst.{search_error_makers};
 ghost use Rattle.grep_searcher.specs.LineCounts.{IsLineSearch};
+ghost use Rattle.grep_searcher.specs.MatcherFailures.{FailsAtQuestion, IsLawfulSearch};
 ghost use Rattle.grep_searcher.specs.Searches.{searched_bytes};
 ghost use Rattle.grep_searcher.specs.SearchErrors.{IsOutOfMemory};
-ghost use Rattle.grep_searcher.specs.SearchFailures.{IsDecodingError, IsFaultless};
+ghost use Rattle.grep_searcher.specs.SearchFailures.{IsDecodingError};
 ghost use Rattle.uses.specs.LongestLines.{IsLongest};
 
-use grep_searcher::laws::{slices_fail, slices_handle_lines};
+use grep_searcher::laws::{slices_fail_for, slices_handle_lines};
 use grep_searcher::sinks::{KeptMatch, MatchHandler, OnMatch};
 use grep_searcher::{Matcher, SearchError, Searcher, SinkMatch};
 use std::alloc::Global;
@@ -21,8 +24,9 @@ use std::marker::Model;
 /// that is lawful for the searcher's terminator, and without a limit or without a context after
 /// matches. Under a limit it is the longest of the lines that it lets through.
 ///
-/// An error is made of the matcher's, of a configuration that the searcher refuses, of being out of
-/// memory, or of why bytes that have to be decoded weren't decoded to their end.
+/// The matcher may fail, as each one of a regular expression may. An error is made of the
+/// matcher's, as a message, of a configuration that the searcher refuses, of being out of memory,
+/// or of why bytes that have to be decoded weren't decoded to their end.
 pub fn longest_line<M: Matcher + Drop>(
     alloc: Global,
     searcher: &mut Searcher,
@@ -33,13 +37,15 @@ pub fn longest_line<M: Matcher + Drop>(
         → IsFilter searcher.old.settings
         → IfOk result (IsLongest (kept_hits searcher.old.settings (M.facts matcher).meaning
         (searched_bytes searcher.old.settings bytes.now))) }
-    ensures error { IsFaultless (M.facts matcher) searcher.old.settings → IfErr result (λ e.
-        IsOutOfMemory e ⊎ IsDecodingError searcher.old (M.facts matcher).meaning bytes.now e) }
+    ensures error { IsLawfulSearch (M.facts matcher) searcher.old.settings → IfErr result (λ e.
+        IsOutOfMemory e
+        ⊎ (FailsAtQuestion (makers_of M.Error.output search_error_makers) (M.facts matcher) e
+        ⊎ IsDecodingError searcher.old (M.facts matcher).meaning bytes.now e)) }
     ensures settings { searcher.new.settings ≡ searcher.old.settings }
     ensures buffers { searcher.old.has_buffers ≡ true → searcher.new.has_buffers ≡ true }
 {
     let mut sink = OnMatch::new(Longest { alloc, line: None });
-    slices_fail::<Global, M, _>(&sink);
+    slices_fail_for::<Global, M, _>(&sink);
     slices_handle_lines::<Global, M, Longest>();
     searcher.search_slice(matcher, bytes, &mut sink)?;
     Ok(sink.into_handler().into_line())

@@ -16,12 +16,12 @@ use grep_searcher::{Matcher, SearchError, Searcher, Sink, SinkContext, SinkFinis
 use std::alloc::{Allocator, Global};
 use std::marker::Model;
 
-/// Returns the first lines of `bytes` in which a matcher has a match, at most `limit`, each with its
-/// number, its offset and its bytes; and how many bytes come up to the end of the last of them, if
-/// there are `limit`, or else the length of `bytes`. So a next call can go on from there.
+/// Returns the first lines of `bytes` in which a matcher has a match, at most `limit`, each with
+/// its number, its offset and its bytes; and how many bytes come up to the end of the last of them,
+/// if there are `limit`, or else the length of `bytes`. So a next call can go on from there.
 ///
-/// That is promised for a matcher that is lawful for a line feed. An error is made of the matcher's,
-/// or of its line terminator, if it declares another one, or of being out of memory.
+/// That is promised for a matcher that is lawful for a line feed. An error is made of the
+/// matcher's, or of its line terminator, if it declares another one, or of being out of memory.
 pub fn take_lines<M: Matcher + Drop>(
     alloc: Global,
     matcher: M,

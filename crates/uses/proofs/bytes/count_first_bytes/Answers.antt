@@ -1,4 +1,5 @@
-use Rattle.std.proofs.Common.{◌≡◌, ℕ, ◌+◌, ◌-◌, ◌<◌, ◌^◌, min, List, [], ◌∷◌, ◌++◌, true, length, replicate, ap, refl, arith, ◌∙◌, if◌then◌else◌, get_or}
+use Rattle.std.proofs.Common.{◌≡◌, ℕ, ◌+◌, ◌-◌, ◌<◌, ◌^◌, min, List, [], ◌∷◌, ◌++◌, true, length}
+use Rattle.std.proofs.Common.{replicate, ap, refl, arith, ◌∙◌, if◌then◌else◌, get_or}
 use Rattle.std.proofs.Math.Nat.{le_trans}
 use Rattle.std.proofs.lemmas.Grind.{common_steps}
 use Rattle.std.proofs.lemmas.List.{get_or-replicate}
@@ -14,8 +15,10 @@ use Rattle.uses.specs.FirstBytes.{begins_with, with_first_byte, with_line}
 use Rattle.uses.proofs.bytes.count_first_bytes.Goals as goal
 
 -- one more line, at the index of each byte
-line-counted : (counts line : List ℕ) (b : ℕ) → length counts ≡ 256 → b < 256 → get_or (with_line counts line) b 0
-    ≡ (if slice_index_or line 0 256 == b then min (get_or counts b 0 + 1) (2 ^ 64 - 1) else get_or counts b 0)
+line-counted : (counts line : List ℕ) (b : ℕ) → length counts ≡ 256 → b < 256
+    → get_or (with_line counts line) b 0
+    ≡ (if slice_index_or line 0 256 == b then min (get_or counts b 0 + 1) (2 ^ 64 - 1)
+    else get_or counts b 0)
 line-counted counts [] b whole inside = grind (arith, common_steps)
 line-counted counts (byte ∷ later) b whole inside = grind (arith, common_steps)
 
@@ -26,7 +29,8 @@ line-whole counts (byte ∷ later) = grind (arith, common_steps)
 -- what the handler has after some matches
 abbrev AreCounts : List Call → List ℕ → Type 0
 AreCounts calls counts = (length counts ≡ 256)
-    × ((b : ℕ) → b < 256 → get_or counts b 0 ≡ min (0 + count_by (begins_with b) calls) (2 ^ 64 - 1))
+    × ((b : ℕ) → b < 256
+    → get_or counts b 0 ≡ min (0 + count_by (begins_with b) calls) (2 ^ 64 - 1))
 
 counts-next : (before : List Call) (counts : List ℕ) (found : Call) → AreCounts before counts
     → AreCounts (before ++ found ∷ []) (with_first_byte counts found)
@@ -42,13 +46,16 @@ returns-clause-counts g c = λ by filter byte inside.
     let bytes = searched_bytes settings c.args.bytes.now in let plan = search_plan settings meaning bytes in
     let run = c.searches_run.ensures c.args.matcher c.args.searcher.now c.args.bytes.now _ _ by.undetected by.lawful
     c.in_ok-search_slice.ensures.searched in
-    let counted = calls-keep (λ _ _. true) with_first_byte AreCounts (λ before old found held. (refl, counts-next before old found held))
-    (replicate 256 0) (match_calls plan.calls) (refl, λ b below. get_or-replicate 256 b 0 0 below) in
+    let counted = calls-keep (λ _ _. true) with_first_byte AreCounts
+    (λ before old found held. (refl, counts-next before old found held)) (replicate 256 0) (match_calls plan.calls)
+    (refl, λ b below. get_or-replicate 256 b 0 0 below) in
+    let few = le_trans (count_by-le-length (begins_with byte) (match_calls plan.calls))
+    (c.matches_are_within_count.ensures settings meaning bytes).0 in
     rw (
       c.into_handler-2.view_is ∙ c.into_handler.ensures ∙ c.runs_handle_matches.ensures.handled settings _ plan _ run,
       c.new-sink.ensures,
-    ) (count-exact _ _ _ (counted.1 byte inside) (le_trans (count_by-le-length (begins_with byte) (match_calls plan.calls))
-    (c.matches_are_within_count.ensures settings meaning bytes).0) (c.runs_handle_matches.ensures.fits (λ _ _. refl) settings _ plan _ run)
+    ) (count-exact _ _ _ (counted.1 byte inside) few
+    (c.runs_handle_matches.ensures.fits (λ _ _. refl) settings _ plan _ run)
     ∙ ap (count_by (begins_with byte)) (c.lines_are_filtered.ensures.matches settings meaning bytes by.by_line filter))
 
 pub returns-in_err-search_slice-clause-error : goal.returns-in_err-search_slice-clause-error

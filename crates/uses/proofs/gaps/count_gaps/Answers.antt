@@ -10,7 +10,8 @@ returns-clause-breaks g c = λ by.
     let settings = c.args.searcher.now.settings in let meaning = (g.M.Matcher.facts c.args.matcher).meaning in
     let run = c.searches_run.ensures c.args.matcher c.args.searcher.now c.args.bytes.now _ _ by.undetected by.lawful
     c.in_ok-search_slice.ensures.searched in
-    c.sink.view_is ∙ count-exact _ _ _ (c.runs_count_calls.ensures is_break (λ count. count) (λ _ _. refl) (λ _ _ _ _ _ h. (h.0, h.1)) _ _ _ _ (omega arith) run)
+    c.sink.view_is ∙ count-exact _ _ _ (c.runs_count_calls.ensures is_break (λ count. count) (λ _ _. refl)
+    (λ _ _ _ _ _ h. (h.0, h.1)) _ _ _ _ (omega arith) run)
     (c.breaks_are_gaps.ensures.few settings meaning (searched_bytes settings c.args.bytes.now) by.by_line)
     (c.runs_end.ensures (λ _ _ _ _ _ h. h.0) _ _ _ _ run).1.2
 

@@ -1,4 +1,5 @@
-use Rattle.std.proofs.Common.{◌≡◌, Bool, true, false, List, [], ◌∷◌, ◌++◌, length, Option, None, Some, refl, arith}
+use Rattle.std.proofs.Common.{◌≡◌, Bool, true, false, List, [], ◌∷◌, ◌++◌, length, Option, None}
+use Rattle.std.proofs.Common.{Some, refl, arith}
 use Rattle.std.proofs.Common.{append_assoc, inl, inr, ◌∙◌}
 use Rattle.std.proofs.lemmas.Bool.{ltb-false, ltb-true}
 use Rattle.std.proofs.lemmas.List.Elements.{All-nil, All-push}
@@ -12,8 +13,8 @@ use Rattle.uses.specs.LongestLines.{IsLongest, IsWithin, with_line}
 use Rattle.uses.proofs.longest.longest_line.Goals as goal
 
 -- the longest of some lines, with one more
-longest-next : (lines : List KeptReport) (old : Option KeptReport) (found : Call) → IsLongest lines old
-    → IsLongest (lines ++ kept_of found ∷ []) (with_line old found)
+longest-next : (lines : List KeptReport) (old : Option KeptReport) (found : Call)
+    → IsLongest lines old → IsLongest (lines ++ kept_of found ∷ []) (with_line old found)
 longest-next lines None found none = rw none (
   All-push (IsWithin (kept_of found)) [] (kept_of found) (All-nil _) (omega arith),
   [],
@@ -27,7 +28,8 @@ longest-next lines (Some longest) found (none, before, later, all, shorter) =
     go : (b : Bool) → nat_lt (length longest.bytes) (length (reported_bytes found)) ≡ b
         → IsLongest (lines ++ kept_of found ∷ []) (if b then Some (kept_of found) else Some longest)
     go true is = (
-      All-push (IsWithin (kept_of found)) lines _ (λ k d inside. omega (arith, none k d inside, ltb-true _ _ is)) (omega arith),
+      All-push (IsWithin (kept_of found)) lines _
+          (λ k d inside. omega (arith, none k d inside, ltb-true _ _ is)) (omega arith),
       lines,
       [],
       refl,
@@ -53,5 +55,5 @@ pub returns-in_err-search_slice-clause-error : goal.returns-in_err-search_slice-
 returns-in_err-search_slice-clause-error g c = λ sound.
     let error = err_from_is_err_and c.from_residual.result c.from_residual.ensures.1 in
     rw (error.1, error.2)
-    (elim (c.slices_fail.ensures c.args.matcher c.args.searcher.now c.args.bytes.now _ _ _ sound
-    c.in_err-search_slice.ensures.searched) [ inl step ↦ inl step.2.1.0 | inr undecoded ↦ inr undecoded ])
+    (elim (c.slices_fail_for.ensures c.args.matcher c.args.searcher.now c.args.bytes.now _ _ _ sound
+    c.in_err-search_slice.ensures.searched) [ inl step ↦ inl step.2.1.0 | inr other ↦ inr other ])

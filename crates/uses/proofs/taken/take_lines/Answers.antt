@@ -11,7 +11,8 @@ returns-clause-lines g c = λ lawful.
     let run = rw (c.input_is_searched.ensures.input settings c.args.bytes.now refl refl) at (c.searches_run.ensures
     c.args.matcher _ c.args.bytes.now _ _ refl lawful (rw c.in_ok-searcher.ensures.settings at
     c.in_ok-search_slice.ensures.searched)) in
-    let kept = c.runs_append_items.ensures (λ (s : TakenLines). s.lines) kept_of (λ _ _ _ _ _ h. (h.0, ap (λ (s : TakenLines). s.lines) h.1)) _ _ _ _ run in
+    let kept = c.runs_append_items.ensures (λ (s : TakenLines). s.lines) kept_of
+    (λ _ _ _ _ _ h. (h.0, ap (λ (s : TakenLines). s.lines) h.1)) _ _ _ _ run in
     let free : IsFilter settings = record { unstopped = refl; untrailed = inr refl } in
     c.into_parts.ensures.lines ∙ rw c.new.ensures.items at kept
     ∙ ap (map kept_of) (c.lines_are_filtered.ensures.matches settings meaning c.args.bytes.now refl free)
