@@ -1,6 +1,6 @@
 -- How far a search reads that its sink ended.
-use Rattle.std.specs.Prelude.{◌≡◌, ℕ, ◌+◌, ◌-◌, ◌<◌, ◌≤◌, slice_get, Bool, true, false, if◌then◌else◌, List, [], ◌∷◌}
-use Rattle.std.specs.Prelude.{◌++◌, length, Option, None, Some, Ok}
+use Rattle.std.specs.Prelude.{◌≡◌, ℕ, ◌+◌, ◌-◌, ◌<◌, ◌≤◌, slice_get, Bool, true, false}
+use Rattle.std.specs.Prelude.{if◌then◌else◌, List, [], ◌∷◌, ◌++◌, length, Option, None, Some, Ok}
 use Rattle.std.specs.List.{concat}
 use Rattle.grep_decode.specs.Source.{ReadResult}
 use Rattle.grep_matcher.specs.Meanings.{MatcherFacts, Meaning}
@@ -48,10 +48,10 @@ module _ {H E F : Type 0} (goes : H → Call → Bool) (next : H → Call → H)
 
   module _ {R : Type 0} (remaining : R → Option (List ℕ))
       (read_step : R → ReadResult → R → Type 0) where
-    -- by line, a search of a reader that ended in `Ok`, and that the handler ended at a match: under
-    -- a heap limit, of bytes that pass unchanged, at most one fill of the buffer was taken beyond
-    -- the end of that match: as many bytes as the limit has, and the three in which a mark is
-    -- looked for
+    -- by line, a search of a reader that ended in `Ok`, and that the handler ended at a match:
+    -- under a heap limit, of bytes that pass unchanged, at most one fill of the buffer was taken
+    -- beyond the end of that match: as many bytes as the limit has, and the three in which a mark
+    -- is looked for
     abbrev pub EndedReadersStop : Type 0
     EndedReadersStop =
         (state : SearcherState) (reader : R) (old : H) (reader' : R) (new : H)

@@ -11,8 +11,8 @@ use Rattle.grep_searcher.specs.HitLines.{hit_lines, hit_matches, IsFilter}
 use Rattle.grep_searcher.specs.LineCounts.{IsLineSearch}
 use Rattle.grep_searcher.specs.MatchHandlers.{IsHandlerStep}
 
--- if the state is a function of the lines so far, of none and after each line, and the search always
--- goes on, it is after the lines that hit that function of them
+-- if the state is a function of the lines so far, of none and after each line, and the search
+-- always goes on, it is after the lines that hit that function of them
 abbrev pub LinesReach : {H : Type 0} → (H → Call → Bool) → (H → Call → H) → Type 0
 LinesReach {H} goes next =
     (state_after : List (List ℕ) → H)

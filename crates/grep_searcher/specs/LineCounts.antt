@@ -2,7 +2,9 @@
 use Rattle.std.specs.Prelude.{◌≡◌, ℕ, false, List, Option, Some, Ok}
 use Rattle.grep_decode.specs.Source.{ReadResult}
 use Rattle.grep_matcher.specs.Meanings.{MatcherFacts, Meaning}
-use Rattle.grep_report.specs.declared.binary_detection.BinaryDetection.TheVariants.{None as no_detection}
+use Rattle.grep_report.specs.declared.binary_detection.BinaryDetection.TheVariants.{
+  None as no_detection,
+}
 use Rattle.grep_report.specs.ErrorMakers.{ErrorMakers}
 use Rattle.grep_definitions.specs.Plans.{is_across, IsLawful, search_plan, IsRun, count_below}
 use Rattle.grep_definitions.specs.Plans.{reports_end, Settings, SearcherState}

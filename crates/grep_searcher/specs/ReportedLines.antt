@@ -12,7 +12,8 @@ use Rattle.grep_walk.specs.declared.line_run.LineRun.{LineRun}
 use Rattle.grep_walk.specs.declared.look_ahead.Ahead.{Ahead}
 use Rattle.grep_walk.specs.declared.walk.Walk.{Walk}
 use Rattle.grep_searcher.specs.declared.search.chosen_lines.Offered.{Offered}
-use Rattle.grep_searcher.specs.declared.search.chosen_lines.Offered.TheVariants.{Declined, Nothing, Taken}
+use Rattle.grep_searcher.specs.declared.search.chosen_lines.Offered.TheVariants.{Declined, Nothing}
+use Rattle.grep_searcher.specs.declared.search.chosen_lines.Offered.TheVariants.{Taken}
 use Rattle.grep_searcher.specs.declared.search.sink_lines.Reach.{Reach}
 use Rattle.grep_searcher.specs.declared.search.sink_lines.Reach.TheVariants.{AcrossLines, ByLine}
 

@@ -15,7 +15,9 @@ use Rattle.grep_line_buffer.specs.declared.detection.Detection.TheVariants.{Conv
 use Rattle.grep_line_buffer.specs.BufferStates.{BufferState, IsWithin}
 use Rattle.grep_matcher.specs.Lines.{byte_of}
 use Rattle.grep_report.specs.declared.binary_detection.BinaryDetection.{BinaryDetection}
-use Rattle.grep_report.specs.declared.binary_detection.BinaryDetection.TheVariants.{None as no_detection}
+use Rattle.grep_report.specs.declared.binary_detection.BinaryDetection.TheVariants.{
+  None as no_detection,
+}
 use Rattle.grep_report.specs.declared.binary_detection.BinaryDetection.TheVariants.{Quit, Convert}
 
 -- the least size of a line buffer, by its limit

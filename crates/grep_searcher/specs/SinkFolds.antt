@@ -1,11 +1,13 @@
 -- What a sink whose steps are functions makes of a run, and what a search without binary detection
 -- comes to.
-use Rattle.std.specs.Prelude.{◌≡◌, ◌⊎◌, ℕ, Bool, true, false, if◌then◌else◌, List, [], ◌∷◌, ◌++◌, length}
-use Rattle.std.specs.Prelude.{Option, Result, Some, None, Ok, Err}
+use Rattle.std.specs.Prelude.{◌≡◌, ◌⊎◌, ℕ, Bool, true, false, if◌then◌else◌, List, [], ◌∷◌, ◌++◌}
+use Rattle.std.specs.Prelude.{length, Option, Result, Some, None, Ok, Err}
 use Rattle.std.specs.List.{fold}
 use Rattle.grep_decode.specs.Source.{ReadResult}
 use Rattle.grep_matcher.specs.Meanings.{IsInfallible, MatcherFacts}
-use Rattle.grep_report.specs.declared.binary_detection.BinaryDetection.TheVariants.{None as no_detection}
+use Rattle.grep_report.specs.declared.binary_detection.BinaryDetection.TheVariants.{
+  None as no_detection,
+}
 use Rattle.grep_definitions.specs.Plans.{search_plan, IsLawful, refusal_of, Call, matches, finishes}
 use Rattle.grep_definitions.specs.Plans.{Finish, Planned, Plan, Steps, IsRun, Settings}
 use Rattle.grep_definitions.specs.Plans.{SearcherState, IsAskedWith}

@@ -98,8 +98,9 @@ pub fn hits_are_selected()
 /// In a search by line, without a stop and without a limit, or without a context after matches, the
 /// matches that are reported are the lines that hit, in order, each with its number, its offset and
 /// its bytes; under a limit the first of these, as many as the limit has. Their bytes are the lines
-/// that hit. Without inversion, of a matcher that has a match exactly where a predicate holds, these
-/// are the lines of which it holds without their terminators; of `EveryLine` these are all lines.
+/// that hit. Without inversion, of a matcher that has a match exactly where a predicate holds,
+/// these are the lines of which it holds without their terminators; of `EveryLine` these are all
+/// lines.
 pub fn lines_are_filtered()
     ensures matches { LinesAreFiltered }
     ensures lines { HitsAreLines }

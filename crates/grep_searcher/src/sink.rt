@@ -1,9 +1,9 @@
 //! What a search reports to.
-ghost use Rattle.std.specs.Prelude.{◌≡◌, ◌+◌, ◌<◌, ◌≤◌, ◌^◌, Bool, Result, length, is_some};
+ghost use Rattle.std.specs.Prelude.{◌≡◌, ◌+◌, ◌<◌, ◌≤◌, ◌^◌, length, is_some};
 ghost use Rattle.std.specs.Prelude.{IfSome, IsOk};
 ghost use Rattle.grep_matcher.specs.Lines.{byte_of};
-ghost use Rattle.grep_definitions.specs.Plans.{Settings, Call, begins, breaks, binary_data};
-ghost use Rattle.grep_definitions.specs.Plans.{finish_result, NeverFails};
+ghost use Rattle.grep_definitions.specs.Plans.{begins, breaks, binary_data};
+ghost use Rattle.grep_definitions.specs.Plans.{finish_result, NeverFails, Steps};
 ghost use Rattle.grep_definitions.specs.MatchedLines.{AreTaken, calls_of_match};
 ghost use Rattle.grep_report.specs.SinkReports.{match_bytes};
 ghost use Rattle.grep_definitions.specs.SinkArguments.{match_call, context_call, finish_call};
@@ -26,7 +26,7 @@ pub trait Sink {
 
     /// One call: the state before, the searcher's settings, the call with its data, what it
     /// returned, the state after. The default says nothing.
-    ghost step: { Self → Settings → Call → Result Bool Self.Error → Self → Type 0 } = { λ _ _ _ _ _. Unit {0} };
+    ghost step: { Steps Self Self.Error } = { λ _ _ _ _ _. Unit {0} };
 
     /// Whether the sink may be called. The caller of a search ensures it, and each call keeps it.
     /// By default it always may be.
@@ -63,10 +63,10 @@ pub trait Sink {
     /// takes those that are left.
     ///
     /// The lines are those of `lines`, whose number and offset are the first line's. A search gives
-    /// them where it knows that lines in a row are matches and nothing else is to be reported: under
-    /// inversion those in which its matcher found nothing, else those that it confirmed. It gives a
-    /// line at least and 16 KiB at most, and looks for a second confirmed one only if the sink took
-    /// the lines before. The caller ensures what `matched` asks of each line.
+    /// them where it knows that lines in a row are matches and nothing else is to be reported:
+    /// under inversion those in which its matcher found nothing, else those that it confirmed. It
+    /// gives a line at least and 16 KiB at most, and looks for a second confirmed one only if the
+    /// sink took the lines before. The caller ensures what `matched` asks of each line.
     ///
     /// The default doesn't take them. A sink that writes lines as one text, or counts them, is
     /// faster if it does.

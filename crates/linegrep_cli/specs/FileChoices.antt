@@ -9,7 +9,9 @@ use Rattle.linegrep_options.specs.declared.option_id.OptionId.TheVariants.{Debug
 use Rattle.linegrep_options.specs.declared.option_id.OptionId.TheVariants.{GlobCaseInsensitive}
 use Rattle.linegrep_options.specs.declared.option_id.OptionId.TheVariants.{Hidden, Ignore}
 use Rattle.linegrep_options.specs.declared.option_id.OptionId.TheVariants.{IgnoreDot, IgnoreExclude}
-use Rattle.linegrep_options.specs.declared.option_id.OptionId.TheVariants.{IgnoreFileCaseInsensitive}
+use Rattle.linegrep_options.specs.declared.option_id.OptionId.TheVariants.{
+  IgnoreFileCaseInsensitive,
+}
 use Rattle.linegrep_options.specs.declared.option_id.OptionId.TheVariants.{IgnoreGlobal}
 use Rattle.linegrep_options.specs.declared.option_id.OptionId.TheVariants.{IgnoreParent, IgnoreVcs}
 use Rattle.linegrep_options.specs.declared.option_id.OptionId.TheVariants.{NoHidden}

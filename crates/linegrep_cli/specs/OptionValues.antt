@@ -28,7 +28,9 @@ use Rattle.linegrep_options.specs.declared.option_id.OptionId.TheVariants.{Repla
 use Rattle.linegrep_options.specs.declared.option_id.OptionId.TheVariants.{«Type»}
 use Rattle.linegrep_options.specs.declared.option_id.OptionId.TheVariants.{TypeAdd, TypeClear}
 use Rattle.linegrep_options.specs.declared.option_id.OptionId.TheVariants.{TypeNot}
-use Rattle.linegrep_options.specs.declared.option_id.OptionId.TheVariants.{Unrestricted as AsUnrestricted}
+use Rattle.linegrep_options.specs.declared.option_id.OptionId.TheVariants.{
+  Unrestricted as AsUnrestricted,
+}
 use Rattle.linegrep_options.specs.declared.uses.Use.{Use}
 use Rattle.linegrep_cli.specs.declared.lists.Listed.{Listed}
 use Rattle.linegrep_cli.specs.declared.lists.Lists.{Lists}

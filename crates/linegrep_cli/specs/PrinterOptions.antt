@@ -16,7 +16,9 @@ use Rattle.grep_printer.specs.declared.separators.Separators.{Separators}
 use Rattle.grep_printer.specs.declared.summary_builder.SummaryConfig.{SummaryConfig}
 use Rattle.grep_printer.specs.declared.summary_builder.SummaryKind.{SummaryKind}
 use Rattle.grep_printer.specs.declared.summary_builder.SummaryKind.TheVariants.{Count as lines}
-use Rattle.grep_printer.specs.declared.summary_builder.SummaryKind.TheVariants.{CountMatches as parts}
+use Rattle.grep_printer.specs.declared.summary_builder.SummaryKind.TheVariants.{
+  CountMatches as parts,
+}
 use Rattle.grep_printer.specs.declared.summary_builder.SummaryKind.TheVariants.{PathWithMatch}
 use Rattle.grep_printer.specs.declared.summary_builder.SummaryKind.TheVariants.{PathWithoutMatch}
 use Rattle.grep_printer.specs.declared.summary_builder.SummaryKind.TheVariants.{Quiet as silent}

@@ -93,8 +93,8 @@ module _ {S F M R W X E : Type 0} (message : E → Option (List ℕ)) (facts : M
       pub input_after : ended.input ≡ last.haystack.reader
       pub output_after : ended.output ≡ last.writer
 
-    -- a run for a regular expression: a run with a matcher of the expression, and with a template for
-    -- its groups, if there is one
+    -- a run for a regular expression: a run with a matcher of the expression, and with a template
+    -- for its groups, if there is one
     pub record IsRunFor (options : Options) (regex : Regex) (input : R) (output : W) (errors : X)
         (ended : Ended R W) : Type 0 where
       pub matcher : M

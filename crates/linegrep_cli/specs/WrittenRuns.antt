@@ -55,8 +55,8 @@ use Rattle.linegrep_files.specs.TypeDefinitions.{IsTypeListOf}
 use Rattle.linegrep_files.specs.declared.choices.Choices.{Choices}
 use Rattle.linegrep_options.specs.ParsedWords.{AreRead}
 use Rattle.linegrep_options.specs.declared.command_line.Parsed.{Parsed}
-use Rattle.linegrep_options.specs.declared.option_id.OptionId.TheVariants.{Files, FilesWithoutMatch, Quiet}
-use Rattle.linegrep_options.specs.declared.option_id.OptionId.TheVariants.{TypeList}
+use Rattle.linegrep_options.specs.declared.option_id.OptionId.TheVariants.{Files, FilesWithoutMatch}
+use Rattle.linegrep_options.specs.declared.option_id.OptionId.TheVariants.{Quiet, TypeList}
 use Rattle.linegrep_options.specs.declared.uses.Use.{Use}
 
 -- a call of an output fails with an error: it returned the error, or took none of some bytes

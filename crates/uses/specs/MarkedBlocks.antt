@@ -1,4 +1,5 @@
--- Blocks of lines between two marks. Of the lines of an input, these read from the last to the first.
+-- Blocks of lines between two marks. Of the lines of an input, these read from the last to the
+-- first.
 use Rattle.std.specs.Prelude.{ℕ, Bool, false, not, ◌&&◌, ◌||◌, if◌then◌else◌}
 use Rattle.std.specs.Prelude.{List, [], ◌∷◌, ◌++◌}
 use Rattle.std.specs.Str.{bytes_eq}

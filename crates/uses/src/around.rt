@@ -14,9 +14,9 @@ use std::alloc::Global;
 /// Returns the first `n` matches of `bytes`, decoded, with the line before and the line after each,
 /// as they are reported: each report has its kind, its number, its offset and its bytes.
 ///
-/// An error is made of the matcher's, of its line terminator, if it declares another one than a line
-/// feed, or of being out of memory. If the bytes have to be decoded, it may also be of more than
-/// 2^64 - 1 decoded bytes.
+/// An error is made of the matcher's, of its line terminator, if it declares another one than a
+/// line feed, or of being out of memory. If the bytes have to be decoded, it may also be of more
+/// than 2^64 - 1 decoded bytes.
 pub fn first_with_context<M: Matcher + Drop>(
     alloc: Global,
     matcher: M,

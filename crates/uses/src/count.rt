@@ -39,8 +39,8 @@ pub fn count_matching_lines<M: Matcher + Drop>(
     Ok(matches.count())
 }
 
-/// Returns how many lines of what a reader gives are matched, as `count_matching_lines` counts them,
-/// if the reader says which bytes it has.
+/// Returns how many lines of what a reader gives are matched, as `count_matching_lines` counts
+/// them, if the reader says which bytes it has.
 ///
 /// An error is one of these, or the reader's.
 pub fn count_in_reader<M: Matcher + Drop, R: Source>(

@@ -15,8 +15,8 @@ use std::alloc::Global;
 
 /// Returns the lines of `bytes` in which a matcher has a match, each with its terminator, in order.
 ///
-/// That is promised for a matcher that is lawful for a line feed. An error is made of the matcher's,
-/// or of its line terminator, if it declares another one, or of being out of memory.
+/// That is promised for a matcher that is lawful for a line feed. An error is made of the
+/// matcher's, or of its line terminator, if it declares another one, or of being out of memory.
 pub fn lines_that_match<M: Matcher + Drop>(
     alloc: Global,
     matcher: M,

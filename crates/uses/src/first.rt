@@ -15,12 +15,12 @@ use grep_searcher::{Matcher, SearchError, Searcher, Source};
 use std::alloc::Global;
 
 /// Returns the first matched lines of what a reader gives, at most `n`, each with its number, its
-/// offset and its bytes. The search ends at the last of them, and by line the reader isn't read again
-/// then.
+/// offset and its bytes. The search ends at the last of them, and by line the reader isn't read
+/// again then.
 ///
-/// Whatever follows what was taken of the reader, these are the first matched lines. That is promised
-/// of a search by line without binary detection, with a matcher that is lawful for the searcher's
-/// terminator.
+/// Whatever follows what was taken of the reader, these are the first matched lines. That is
+/// promised of a search by line without binary detection, with a matcher that is lawful for the
+/// searcher's terminator.
 ///
 /// An error is made of the reader's, of the matcher's, of a configuration that the searcher
 /// refuses, of the heap limit, of being out of memory, or of more than 2^64 - 1 decoded bytes.
@@ -45,13 +45,14 @@ pub fn first_matches<M: Matcher + Drop, R: Source>(
     Ok(sink.into_handler().into_matches())
 }
 
-/// Returns the first line of what a reader gives in which a matcher has a match, with its number, its
-/// offset and its bytes. The search stops there: no more bytes are read beyond that line than `limit`,
-/// and three.
+/// Returns the first line of what a reader gives in which a matcher has a match, with its number,
+/// its offset and its bytes. The search stops there: no more bytes are read beyond that line than
+/// `limit`, and three.
 ///
-/// That is promised of a reader that says which bytes it has, with a matcher that is lawful for a line
-/// feed. An error is made of the reader's, of the matcher's, or of its line terminator, if it declares
-/// another one; of a line that is longer than `limit`, of a limit of 0, or of being out of memory.
+/// That is promised of a reader that says which bytes it has, with a matcher that is lawful for a
+/// line feed. An error is made of the reader's, of the matcher's, or of its line terminator, if it
+/// declares another one; of a line that is longer than `limit`, of a limit of 0, or of being out of
+/// memory.
 pub fn first_line_that_matches<M: Matcher + Drop, R: Source>(
     alloc: Global,
     matcher: M,

@@ -4,14 +4,14 @@
 //! `count_matching_lines` counts, and so do `count_in_reader`, `count_in_path` and, across lines,
 //! `count_blocks`; `has_match` stops at the first match of a path, `first_matches` keeps the first
 //! ones of a reader and `first_with_context` those of a slice with the lines around them, and
-//! `matching_lines` joins the lines of all matches by a handler of its own. `search_outline` keeps a
-//! byte for each report by a sink of its own. `numbered_lines`, `json_lines` and `in_context` write
-//! by closures, and `reporter` builds a searcher.
-//! `count_with_prefix` and `count_non_ascii_lines` have a matcher of their own, which a search asks
-//! about one line, or about many; `count_pattern_lines` and `first_pattern_line` compile a regular
-//! expression. `lines_that_match` keeps the lines of a slice that match, `matches_in_lines` the first
-//! match in each of them, `last_matches` the last lines of a reader, and `lines_between` those between
-//! two marks; `first_in_each` finds the first match in each line that a search reports, and
+//! `matching_lines` joins the lines of all matches by a handler of its own. `search_outline` keeps
+//! a byte for each report by a sink of its own. `numbered_lines`, `json_lines` and `in_context`
+//! write by closures, and `reporter` builds a searcher. `count_with_prefix` and
+//! `count_non_ascii_lines` have a matcher of their own, which a search asks about one line, or
+//! about many; `count_pattern_lines` and `first_pattern_line` compile a regular expression.
+//! `lines_that_match` keeps the lines of a slice that match, `matches_in_lines` the first match in
+//! each of them, `last_matches` the last lines of a reader, and `lines_between` those between two
+//! marks; `first_in_each` finds the first match in each line that a search reports, and
 //! `count_in_paths` adds up the counts of files. `longest_line` keeps the longest line of a slice,
 //! `take_lines` the first ones with how many bytes they take, and `count_gaps` counts where lines
 //! were left out between two reports. `count_first_bytes` counts lines by their first byte, and

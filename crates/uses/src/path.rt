@@ -48,8 +48,8 @@ pub fn count_in_path<R: Open, M: Matcher + Drop, P: AsPath>(
 /// ends at the first one, and if the searcher has a heap limit, no more bytes are read beyond that
 /// line than the limit has, and three.
 ///
-/// The errors, and what is promised, are as in `count_in_path`; how far is read is promised of a file
-/// that is searched as it is.
+/// The errors, and what is promised, are as in `count_in_path`; how far is read is promised of a
+/// file that is searched as it is.
 pub fn has_match<R: Open, M: Matcher + Drop, P: AsPath>(
     rt: &R,
     searcher: &mut Searcher,

@@ -11,8 +11,8 @@ use grep_searcher::{ByteSet, LineTerminator, Match, Matcher, SearchError, Search
 use std::io;
 use std::marker::Model;
 
-/// Returns how many lines of `bytes`, decoded, start with `prefix`, with a searcher that searches by
-/// line and has no limit, no stop, no inversion and no binary detection, as a new one.
+/// Returns how many lines of `bytes`, decoded, start with `prefix`, with a searcher that searches
+/// by line and has no limit, no stop, no inversion and no binary detection, as a new one.
 ///
 /// An error is one of `count_matching_lines`, but for that of a matcher.
 pub fn count_with_prefix(

@@ -129,8 +129,8 @@ impl<'s, A: Allocator + Copy> Search<'s, A> {
         let reporting = self.config.reporting();
         let mut start = start;
         let mut ahead = NOTHING_AHEAD;
-        // What is asked about the lines after a chosen one: nothing unless the sink took the last lines
-        // that it was offered, since it may take none.
+        // What is asked about the lines after a chosen one: nothing unless the sink took the last
+        // lines that it was offered, since it may take none.
         let mut further = Questions::OneLine;
         let many = self.config.questions_after_chosen(questions);
         // The matcher's error at a question about lines that the walk hasn't come to.

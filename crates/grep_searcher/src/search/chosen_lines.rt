@@ -1,6 +1,6 @@
 //! How lines that are chosen one after another are reported.
-ghost use Rattle.std.specs.Prelude.{◌≡◌, ◌≤◌, ◌<◌, ◌+◌, ◌-◌, ◌^◌, length, IfErr, IfOk, IfSome, IsOk};
-ghost use Rattle.std.specs.Prelude.{None};
+ghost use Rattle.std.specs.Prelude.{◌≡◌, ◌≤◌, ◌<◌, ◌+◌, ◌-◌, ◌^◌, length, IfErr, IfOk, IfSome};
+ghost use Rattle.std.specs.Prelude.{IsOk, None};
 ghost use Rattle.grep_searcher.specs.ReportedLines.{IsOffered, outcome_at};
 ghost use Rattle.grep_definitions.specs.MatchedLines.{AreTaken};
 ghost use Rattle.grep_definitions.specs.Plans.{AreMade, NeverFails, failed};
@@ -29,9 +29,9 @@ pub(crate) enum Offered {
 }
 
 impl<'s, A: Allocator + Copy> Search<'s, A> {
-    // Offers the sink the lines from `start` on that are chosen one after another, if there are some.
-    // If it declines and nothing was asked about the lines after the first, it counts as offered
-    // nothing.
+    // Offers the sink the lines from `start` on that are chosen one after another, if there are
+    // some. If it declines and nothing was asked about the lines after the first, it counts as
+    // offered nothing.
     #[inline(always)]
     pub(crate) fn sink_chosen_lines<M: Matcher, S: Sink>(
         &self,
@@ -114,9 +114,9 @@ impl<'s, A: Allocator + Copy> Search<'s, A> {
     }
 
     // Reports the lines from `start` up to `end` of the window, where a walk is, to a sink that
-    // doesn't take them at once: the first by a call of its own, and then those after it at once, if
-    // it takes them. Returns the offset of the end of the line whose call ended the search, if one
-    // did.
+    // doesn't take them at once: the first by a call of its own, and then those after it at once,
+    // if it takes them. Returns the offset of the end of the line whose call ended the search, if
+    // one did.
     #[inline(never)]
     pub(crate) fn sink_one_by_one<S: Sink>(
         &self,

@@ -32,8 +32,8 @@ pub(crate) enum Reach {
 
 // What each line goes through is inlined into the loops: called, it made a search that reports
 // every second line 6 to 9 percent slower. What a call of the sink returns is taken apart at each
-// level, and each case is returned by itself: a result that is returned as it is, or after the cases
-// have joined, gets copied with the room for an error, which takes as long.
+// level, and each case is returned by itself: a result that is returned as it is, or after the
+// cases have joined, gets copied with the room for an error, which takes as long.
 impl<'s, A: Allocator + Copy> Search<'s, A> {
     // Reports the line that a walk is at, from `start` up to `end` of the window, and if it is
     // chosen the lines before it that are near. In the context after a match a trailing line is a
