@@ -218,10 +218,7 @@ impl Look {
         if self.is_plain() {
             return Ok(None);
         }
-        match self.text(alloc) {
-            Ok(text) => Ok(Some(text)),
-            Err(error) => Err(error),
-        }
+        Ok(Some(self.text(alloc)?))
     }
 
     // The escape before a text with this look.

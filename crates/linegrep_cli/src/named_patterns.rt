@@ -64,10 +64,8 @@ fn only_pattern(alloc: Global, pattern: &str) -> Result<Vec<String>, Failure>
     ensures pattern { IfOk result (λ patterns. map string_bytes patterns.items ≡ pattern.now ∷ []) }
 {
     let mut patterns = Vec::new(alloc);
-    match add_text(alloc, &mut patterns, pattern) {
-        Ok(()) => Ok(patterns),
-        Err(failure) => Err(failure),
-    }
+    add_text(alloc, &mut patterns, pattern)?;
+    Ok(patterns)
 }
 
 // The patterns that uses of options name.
@@ -213,10 +211,7 @@ fn add_lines(alloc: Global, texts: &mut Vec<String>, text: &str) -> Result<(), F
     ensures refused { IfErr result (λ failure. has_cause failure ≡ false) }
 {
     for line in text.lines() {
-        match add_text(alloc, texts, line) {
-            Ok(()) => {}
-            Err(failure) => return Err(failure),
-        }
+        add_text(alloc, texts, line)?;
     }
     Ok(())
 }

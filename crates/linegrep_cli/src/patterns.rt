@@ -103,10 +103,7 @@ fn compile_joined(
         × (IsRefusal builder.now (joined_text (map (λ text. text.now) texts.now) ∷ []) error
         ⊎ IsRefusal builder.now (map (λ text. text.now) texts.now) error)) }
 {
-    match compile_with(alloc, builder, texts) {
-        Ok(_) => {}
-        Err(failure) => return Err(failure),
-    }
+    compile_with(alloc, builder, texts)?;
     match joined_text(alloc, texts) {
         Ok(text) => compile_with(alloc, builder, &[text.as_str()]),
         Err(_) => Err(Failure::out_of_memory()),

@@ -86,18 +86,9 @@ fn layout_of<S: System>(
         → (refuses_path_separator options.now ≡ true) ⊎ (refuses_colors options.now ≡ true)
         ⊎ IsFormatRefused options.now) }
 {
-    let path_separator = match path_separator(alloc, options) {
-        Ok(path_separator) => path_separator,
-        Err(failure) => return Err(failure),
-    };
-    let colors = match color_texts(alloc, options) {
-        Ok(colors) => colors,
-        Err(failure) => return Err(failure),
-    };
-    let hyperlinks = match hyperlinks(alloc, system, options) {
-        Ok(hyperlinks) => hyperlinks,
-        Err(failure) => return Err(failure),
-    };
+    let path_separator = path_separator(alloc, options)?;
+    let colors = color_texts(alloc, options)?;
+    let hyperlinks = hyperlinks(alloc, system, options)?;
     match separators(alloc, options) {
         Ok(separators) => Ok(Layout {
             separators,

@@ -17,7 +17,7 @@ ghost use Rattle.std.specs.Option.{option_map};
 
 use crate::config::{Config, ConfigFile, read_config, skips_config, warn};
 use crate::config_words::all_words;
-use crate::failures::{Failure, output_failure};
+use crate::failures::output_failure;
 use crate::listing::list_all;
 use crate::lists::Lists;
 use crate::named_patterns::read_patterns;
@@ -111,9 +111,7 @@ fn run_arguments<S: System, R: Source + Drop, W: Output + Drop, E: Output>(
             let failure = fault_failure(rt.alloc(), arguments, &fault);
             Ended::refused(errors, &failure, input, output)
         }
-        Err(ParseError::Memory) => {
-            Ended::refused(errors, &Failure::out_of_memory(), input, output)
-        }
+        Err(ParseError::Memory) => Ended::without_memory(errors, input, output),
     }
 }
 
@@ -145,7 +143,7 @@ fn run_command<S: System, R: Source + Drop, W: Output + Drop, E: Output>(
         Ok(Config::Present(file)) => {
             run_with_file(rt, system, streams, &file, arguments, input, output, errors)
         }
-        Err(_) => Ended::refused(errors, &Failure::out_of_memory(), input, output),
+        Err(_) => Ended::without_memory(errors, input, output),
     }
 }
 
@@ -167,7 +165,7 @@ fn run_with_file<S: System, R: Source + Drop, W: Output + Drop, E: Output>(
         system.now arguments.now streams input output errors.old result errors.new }
 {
     let Ok(words) = all_words(rt.alloc(), &file.contents, arguments) else {
-        return Ended::refused(errors, &Failure::out_of_memory(), input, output);
+        return Ended::without_memory(errors, input, output);
     };
     match parse(rt.alloc(), &words) {
         Ok(parsed) => run_parsed(rt, system, streams, &parsed, input, output, errors),
@@ -179,9 +177,7 @@ fn run_with_file<S: System, R: Source + Drop, W: Output + Drop, E: Output>(
                 output,
             )
         }
-        Err(ParseError::Memory) => {
-            Ended::refused(errors, &Failure::out_of_memory(), input, output)
-        }
+        Err(ParseError::Memory) => Ended::without_memory(errors, input, output),
     }
 }
 
@@ -200,13 +196,13 @@ fn run_parsed<S: System, R: Source + Drop, W: Output + Drop, E: Output>(
         system.now parsed.now streams input output errors.old result errors.new }
 {
     let Ok(operands) = texts(rt.alloc(), &parsed.operands) else {
-        return Ended::refused(errors, &Failure::out_of_memory(), input, output);
+        return Ended::without_memory(errors, input, output);
     };
     let Ok(operands) = texts_of(rt.alloc(), &operands) else {
-        return Ended::refused(errors, &Failure::out_of_memory(), input, output);
+        return Ended::without_memory(errors, input, output);
     };
     let Ok(lists) = Lists::read(rt.alloc(), &parsed.uses, operands) else {
-        return Ended::refused(errors, &Failure::out_of_memory(), input, output);
+        return Ended::without_memory(errors, input, output);
     };
     let options = Options::new(&parsed.uses, &lists, streams);
     run_options(rt, system, &lists, &options, input, output, errors)
@@ -258,7 +254,7 @@ fn run_options<S: System, R: Source + Drop, W: Output + Drop, E: Output>(
         system.now options.now input output errors.old result errors.new }
 {
     let Ok(asked) = text_asked(rt.alloc(), options) else {
-        return Ended::refused(errors, &Failure::out_of_memory(), input, output);
+        return Ended::without_memory(errors, input, output);
     };
     match &asked {
         Some(text) => write_answer(rt.alloc(), text.as_str(), input, output, errors),

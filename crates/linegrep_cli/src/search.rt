@@ -45,6 +45,13 @@ pub struct Ended<R, W> {
 }
 
 impl<R, W> Ended<R, W> {
+    /// A run that is refused, since there is no memory. `errors` says so.
+    pub fn without_memory<E: Output>(errors: &mut E, input: R, output: W) -> Ended<R, W>
+        ensures { IsRefusedWithoutMemory E.step input output errors.old result errors.new }
+    {
+        Ended::refused(errors, &Failure::out_of_memory(), input, output)
+    }
+
     /// A run that is refused. The failure is written to `errors`.
     pub fn refused<E: Output>(errors: &mut E, failure: &Failure, input: R, output: W) -> Ended<R, W>
         ensures { IsRefusedWith E.step failure.now input output errors.old result errors.new }
@@ -212,7 +219,7 @@ where
     }
     match regex.named_matcher::<N>(rt.alloc()) {
         Ok(matcher) => prepared.search(rt, system, options, &matcher, input, output, errors),
-        Err(_) => Ended::refused(errors, &Failure::out_of_memory(), input, output),
+        Err(_) => Ended::without_memory(errors, input, output),
     }
 }
 

@@ -55,10 +55,7 @@ fn context(alloc: Global, options: &Options<'_, '_>) -> Result<Option<Vec<u8>>, 
     if options.has(OptionId::NoContextSeparator) {
         return Ok(None);
     }
-    match text(alloc, options.context_separator, "--") {
-        Ok(text) => Ok(Some(text)),
-        Err(error) => Err(error),
-    }
+    Ok(Some(text(alloc, options.context_separator, "--")?))
 }
 
 // The text of an option with its escapes read, or another if it isn't used.

@@ -35,10 +35,7 @@ impl<R: Files + Env> System for R {
     ghost identifies = { λ _ _ _. Unit {0} };
 
     fn is_folder(&self, path: &str) -> io::Result<bool> {
-        match fs::metadata(self, path) {
-            Ok(metadata) => Ok(metadata.is_dir()),
-            Err(error) => Err(error),
-        }
+        Ok(fs::metadata(self, path)?.is_dir())
     }
 
     fn id_of(&self, file: &R::File) -> Option<FileId> {

@@ -22,10 +22,7 @@ pub fn template(
     let Some(text) = options.replace else {
         return Ok(None);
     };
-    match read(alloc, regex, text) {
-        Ok(template) => Ok(Some(template)),
-        Err(error) => Err(error),
-    }
+    Ok(Some(read(alloc, regex, text)?))
 }
 
 // A template with the groups of an expression.

@@ -11,4 +11,4 @@ returns-in-Err-Words g c =
     c.refused.ensures
 
 pub returns-in-Err-Memory : goal.returns-in-Err-Memory
-returns-in-Err-Memory g c = no_memory (c.out_of_memory.result, c.out_of_memory.ensures, c.refused-in-Err-Memory.ensures)
+returns-in-Err-Memory g c = no_memory c.without_memory.ensures

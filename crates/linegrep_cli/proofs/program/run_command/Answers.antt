@@ -27,7 +27,7 @@ returns-in-Ok-Unreadable g c = of_parsed c.args.arguments.now _ c.args.parsed.no
     c.requires c.run_parsed-in-Ok-Unreadable.ensures
 
 pub returns-in-Err : goal.returns-in-Err
-returns-in-Err g c = no_memory (c.out_of_memory.result, c.out_of_memory.ensures, c.refused.ensures)
+returns-in-Err g c = no_memory c.without_memory.ensures
 
 pub run_with_file-requires-clause-command : goal.run_with_file-requires-clause-command
 run_with_file-requires-clause-command g c = (

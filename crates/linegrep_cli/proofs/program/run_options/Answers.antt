@@ -12,4 +12,4 @@ returns-in-Some g c = of_text c.as_str.result.now
     c.write_answer.ensures
 
 pub returns-in_default : goal.returns-in_default
-returns-in_default g c = without_memory (c.out_of_memory.result, c.out_of_memory.ensures, c.refused.ensures)
+returns-in_default g c = without_memory c.without_memory.ensures

@@ -6,7 +6,7 @@ use Rattle.linegrep_cli.specs.ProgramRuns.{no_memory, of_fault, of_parsed}
 use Rattle.linegrep_cli.proofs.program.run_with_file.Goals as goal
 
 pub returns-in_default : goal.returns-in_default
-returns-in_default g c = no_memory (c.out_of_memory.result, c.out_of_memory.ensures, c.refused.ensures)
+returns-in_default g c = no_memory c.without_memory.ensures
 
 pub returns-in-Ok-parse : goal.returns-in-Ok-parse
 returns-in-Ok-parse g c = of_parsed c.deref-2.result.now c.args.errors.now c.in-Ok-parse.parsed
@@ -22,11 +22,7 @@ returns-in-Err-Words g c =
     (ap texts c.deref-2.ensures.value ∙ c.in-Ok.ensures
     ∙ ap (λ contents. config_words contents ++ texts c.args.arguments.now) c.deref.ensures.value))
     (rw c.in-Err-Words.field-0-is at c.in-Err-Words.ensures.refused)
-    c.refused-in-Err-Words.ensures
+    c.refused.ensures
 
 pub returns : goal.returns
-returns g c = no_memory (
-  c.out_of_memory-in-Err-Memory.result,
-  c.out_of_memory-in-Err-Memory.ensures,
-  c.refused-in-Err-Memory.ensures,
-)
+returns g c = no_memory c.without_memory-in-Err-Memory.ensures
