@@ -290,6 +290,8 @@ impl Regex {
     /// matchers declare no line terminator, so that most are asked about each line alone: for the
     /// lines of a search `for_lines` is faster. See `RegexMatcherBuilder::build_many` for errors.
     pub fn new(alloc: Global, pattern: &str) -> Result<Regex, Error>
+        ensures options { IfOk result (λ regex. regex_options regex ≡ default_options) }
+        ensures patterns { IfOk result (λ regex. regex_patterns regex ≡ pattern.now ∷ []) }
         ensures meaning { IfOk result
             (λ regex. regex_meaning regex ≡ meaning_of default_options (pattern.now ∷ [])) }
         ensures accepted { IfOk result (λ _. AreAccepted default_options (pattern.now ∷ [])) }
@@ -302,6 +304,8 @@ impl Regex {
     /// its matchers declare a line feed as the line terminator, as those of upstream's
     /// `RegexMatcher::new_line_matcher` do. See `RegexMatcherBuilder::build_many` for errors.
     pub fn for_lines(alloc: Global, pattern: &str) -> Result<Regex, Error>
+        ensures options { IfOk result (λ regex. regex_options regex ≡ line_options) }
+        ensures patterns { IfOk result (λ regex. regex_patterns regex ≡ pattern.now ∷ []) }
         ensures meaning { IfOk result (λ regex. regex_meaning regex ≡ line_meaning pattern.now) }
         ensures accepted { IfOk result (λ _. AreAccepted line_options (pattern.now ∷ [])) }
         ensures error { IfErr result (IsRefusal line_options (pattern.now ∷ [])) }
