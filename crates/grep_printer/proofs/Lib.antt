@@ -11,6 +11,7 @@ pub mod HyperlinkLemmas
 pub mod LineFeedLemmas
 pub mod LinePlaceLemmas
 pub mod LinkedFieldLemmas
+pub mod PartLineLemmas
 pub mod PartTextLemmas
 pub mod PassedLineLemmas
 pub mod PlainLineLemmas

@@ -213,6 +213,25 @@ module _ (layout : Layout) (kind : LineKind) (plain : is_plain layout.config lay
       ∙ ap (λ (t : List ℕ). plain_line (end_byte layout) (mark_byte kind) place.number line ++ t)
       (lines-plain (place_after place line) parts later)
 
+  -- what a part has in a line is the part, if it starts in the line and doesn't reach into its
+  -- terminator
+  pub part-plain : (number : Option ℕ) (offset : ℕ) (line : List ℕ) (part : ℕ × ℕ) → part.0 ≤ part.1
+      → part.1 ≤ length (strip layout.terminator line) → part.0 < length line
+      → clipped_text layout kind offset line number (line_span layout.terminator 0 line) part
+      ≡ plain_part (end_byte layout) (mark_byte kind) number line part
+  part-plain number offset line part ordered within early =
+      let span = line_span layout.terminator 0 line in
+      let start : max part.0 0 ≡ part.0 = omega arith in
+      let end : max (max part.0 0) (min part.1 span.end) ≡ part.1 = omega (arith, ordered, within) in
+      let inside : is_in_span span part ≡ true = grind (arith, nat_tests, ordered, within, early) in
+      ap (λ holds. if holds then line_text layout kind
+      (record (part_place offset number part) { start = max part.0 span.start }) (part ∷ [])
+      (slice_range line (max part.0 span.start)
+      (max (max part.0 span.start) (min part.1 span.end))) else []) inside
+      ∙ (line-plain _ (part ∷ [])
+      (slice_range line (max part.0 0) (max (max part.0 0) (min part.1 span.end)))
+      ∙ ap₂ (λ a b. plain_line (end_byte layout) (mark_byte kind) number (slice_range line a b)) start end)
+
 -- a report that is written so
 module _ (layout : Layout) (report : Report) (parts : List (ℕ × ℕ)) (plain : is_plain layout.config layout.path ≡ true)
   where
@@ -236,26 +255,6 @@ module _ (layout : Layout) (report : Report) (parts : List (ℕ × ℕ)) (plain 
     context-plain whole kind = ap (instead _ _) whole
         ∙ line-plain layout context_line plain (report_place report parts) parts report.bytes.now
 
-    -- a part of a line that has its terminator, if it doesn't reach into that
-    part-plain : (part : ℕ × ℕ) → part.0 ≤ part.1 → part.1 ≤ length (strip layout.terminator report.bytes.now)
-        → length (strip layout.terminator report.bytes.now) < length report.bytes.now
-        → clipped_text layout match_line report.offset report.bytes.now report.number
-        (line_span layout.terminator 0 report.bytes.now) part
-        ≡ plain_part (end_byte layout) 58 report.number report.bytes.now part
-    part-plain part ordered within ended =
-        let span = line_span layout.terminator 0 report.bytes.now in
-        let start : max part.0 0 ≡ part.0 = omega arith in
-        let end : max (max part.0 0) (min part.1 span.end) ≡ part.1 = omega (arith, ordered, within) in
-        let inside : is_in_span span part ≡ true = grind (arith, nat_tests, ordered, within, ended) in
-        ap (λ holds. if holds then line_text layout match_line
-        (record (part_place report.offset report.number part) {
-          start = max part.0 span.start;
-        }) (part ∷ []) (slice_range report.bytes.now (max part.0 span.start)
-        (max (max part.0 span.start) (min part.1 span.end))) else []) inside
-        ∙ (line-plain layout match_line plain _ (part ∷ [])
-        (slice_range report.bytes.now (max part.0 0) (max (max part.0 0) (min part.1 span.end)))
-        ∙ ap₂ (λ a b. plain_line (end_byte layout) 58 report.number (slice_range report.bytes.now a b)) start end)
-
     -- such parts
     parts-plain : (low : ℕ) (some : List (ℕ × ℕ))
         → AreInOrder low (length (strip layout.terminator report.bytes.now)) some
@@ -265,7 +264,9 @@ module _ (layout : Layout) (report : Report) (parts : List (ℕ × ℕ)) (plain 
         ≡ flat_map (plain_part (end_byte layout) 58 report.number report.bytes.now) some
     parts-plain low [] ordered ended = refl
     parts-plain low (part ∷ later) ordered ended = ap₂ (λ (xs : List ℕ) ys. xs ++ ys)
-        (part-plain part ordered.1 ordered.2 ended) (parts-plain part.1 later ordered.3 ended)
+        (part-plain layout match_line plain report.number report.offset report.bytes.now part ordered.1
+        ordered.2 (omega (arith, ordered.1, ordered.2, ended)))
+        (parts-plain part.1 later ordered.3 ended)
 
     -- a match of which such parts are written
     pub match-parts-plain : writes_parts layout parts ≡ true → HasPlainParts layout.terminator report parts

@@ -17,6 +17,7 @@ use Rattle.grep_printer.specs.StatsSums.{capped}
 use Rattle.grep_printer.specs.SummaryTexts.{counts_on, finish_text, has_found, is_written}
 use Rattle.grep_printer.specs.declared.colors.ColorSpecs.TheVariants.{Plain}
 use Rattle.grep_printer.specs.declared.hyperlinks.PrinterPath.{PrinterPath}
+use Rattle.grep_printer.specs.declared.standard.StandardFormat.{StandardFormat}
 use Rattle.grep_printer.specs.declared.summary.Counts.{Counts}
 use Rattle.grep_printer.specs.declared.summary_builder.SummaryConfig.{SummaryConfig}
 use Rattle.grep_printer.specs.declared.summary_builder.SummaryKind.{SummaryKind}
@@ -36,21 +37,24 @@ use Rattle.grep_searcher.specs.declared.LineTerminator.{LineTerminator}
 use Rattle.grep_searcher.specs.declared.LineTerminator.TheVariants.{Byte}
 use Rattle.linegrep_cli.proofs.HitTextLemmas.{flat_map-agree, hit-texts, hits-placed, line-text}
 use Rattle.linegrep_cli.proofs.HitTextLemmas.{length-hits, unnumbered-texts}
-use Rattle.linegrep_cli.proofs.LineSearchLemmas.{lines-searched}
+use Rattle.linegrep_cli.proofs.HitPartLemmas.{parts-texts}
+use Rattle.linegrep_cli.proofs.LineSearchLemmas.{lines-searched, parts-searched}
 use Rattle.linegrep_cli.proofs.MatchWalkLemmas.{printed_of}
 use Rattle.linegrep_cli.proofs.OneInputLemmas.{IsOneText, one-text}
 use Rattle.linegrep_cli.proofs.PlainRunLemmas.{KeepCount, KeepPath, count-kind, path-kind, without-null}
 use Rattle.linegrep_cli.proofs.PlainRunLemmas.{without-zero}
 use Rattle.linegrep_cli.proofs.PlainRunLemmas.{KeepLook, KeepText, no-color, no-separators, no-summary}
 use Rattle.linegrep_cli.proofs.PlainRunLemmas.{no-template, not-counted, not-json, not-vimgrep}
-use Rattle.linegrep_cli.proofs.PlainRunLemmas.{plain-lines}
+use Rattle.linegrep_cli.proofs.PlainRunLemmas.{parts-as-asked, plain-lines}
 use Rattle.linegrep_cli.proofs.PlainSettingLemmas.{ArePlainSettings, KeepLines}
 use Rattle.linegrep_cli.proofs.PlainSettingLemmas.{plain-settings}
+use Rattle.linegrep_cli.proofs.PlainTextLemmas.{WritesLines}
 use Rattle.linegrep_cli.proofs.PrinterChoiceLemmas.{lines-printer, summary-printer}
 use Rattle.linegrep_cli.proofs.PrinterKindLemmas.{lines-run, summary-run}
 use Rattle.linegrep_cli.proofs.SummaryTextLemmas.{goes_on, matches-counted, no_bytes}
+use Rattle.linegrep_cli.proofs.UnusedOptionLemmas.{IsRefused, has-none}
 use Rattle.linegrep_cli.specs.Corollaries.{IsTextOfInput, UseOnly, is_matched_by, line_of_count}
-use Rattle.linegrep_cli.specs.Corollaries.{line_with_end, line_with_number}
+use Rattle.linegrep_cli.specs.Corollaries.{line_with_end, line_with_number, lines_of_matches}
 use Rattle.linegrep_cli.specs.PrinterOptions.{color_choice, summary_kind, summary_settings}
 use Rattle.linegrep_cli.specs.OptionUses.{has}
 use Rattle.linegrep_cli.specs.SearchTexts.{AreCounts, AreTotals, Input}
@@ -66,7 +70,8 @@ use Rattle.linegrep_cli.specs.declared.search.Ended.{Ended}
 use Rattle.linegrep_cli.specs.declared.printers.Printer.TheVariants.{Lines, Summary}
 use Rattle.linegrep_options.specs.declared.option_id.OptionId.{OptionId}
 use Rattle.linegrep_options.specs.declared.option_id.OptionId.TheVariants.{Count, FilesWithMatches}
-use Rattle.linegrep_options.specs.declared.option_id.OptionId.TheVariants.{IncludeZero, Quiet}
+use Rattle.linegrep_options.specs.declared.option_id.OptionId.TheVariants.{IncludeZero, OnlyMatching}
+use Rattle.linegrep_options.specs.declared.option_id.OptionId.TheVariants.{Quiet}
 
 -- the texts of two settings are one, which differ only in what is done about a NUL
 searched-same : (settings : Settings) (quits : Bool) (content : List ℕ)
@@ -200,14 +205,17 @@ module _ {S F R W X M : Type 0} (world : World S F R W X) (system : S) (before :
       → ended.status ≡ (if found then 0 else 1)
   status-known found is = run.status_is ∙ ap (λ b. if b then 0 else 1) (alone.found_is ∙ is)
 
-  -- with a printer of lines
+  -- with a printer of lines, or of their parts
   module _ (keeps : KeepText allowed) (look : KeepLook allowed) (nameless : one.path ≡ None) where
-    -- the texts of the lines that hit are written, and the status says whether there is one
-    pub lines-written :
-        (world.output.contents ended.output ≡ Some (before ++ flat_map (line-text k meaning text)
-        (hits-placed k meaning text)))
-        × (ended.status ≡ (if nat_lt 0 (length (hit_lines k meaning text)) then 0 else 1))
-    lines-written =
+    pub record IsLinePrinter : Type 0 where
+      pub counting : CountedRun StandardFormat
+      pub is : run.printer ≡ Lines counting
+      pub writes : WritesLines counting.printer.format.format.config (record { path = one.path; settings = k })
+      pub parts_as_asked : counting.printer.format.format.config.only_matching ≡ has options OnlyMatching
+      pub totals : run.totals ≡ []
+
+    line-printer : IsLinePrinter
+    line-printer =
         let across = is_across (searcher_settings options) meaning in
         let colors = colors_for run.colors (color_choice options) options.streams in
         let kind = lines-printer options across run.separators run.matcher run.template colors
@@ -215,40 +223,70 @@ module _ {S F R W X M : Type 0} (world : World S F R W X) (system : S) (before :
         (not-vimgrep allowed options only keeps) (not-json allowed options only keeps)
         (no-template allowed options only keeps regex run.template run.is_template) run.is_printer in
         let chosen = lines-run run.printer kind in
-        let usual = no-separators allowed options only keeps run.separators run.are_separators in
-        let writes = plain-lines allowed options only keeps colors run.separators
-        chosen.0.printer.format.format.config (record { path = one.path; settings = k })
-        (no-color allowed options only keeps run.colors) usual nameless chosen.2.0 in
+        let usual = no-separators allowed options only keeps run.separators run.are_separators in record {
+          counting = chosen.0;
+          is = chosen.1;
+          writes = plain-lines allowed options only keeps colors run.separators
+              chosen.0.printer.format.format.config (record { path = one.path; settings = k })
+              (no-color allowed options only keeps run.colors) usual nameless chosen.2.0;
+          parts_as_asked = parts-as-asked allowed options only keeps colors run.separators
+              chosen.0.printer.format.format.config chosen.2.0;
+          totals = no-totals chosen.0 (chosen.2.1.counts ∙ not-counted allowed options only keeps)
+              (subst (λ p. AreTotals p run.findings.stats run.totals) chosen.1 run.are_totals);
+        }
+
+    -- the texts of the lines that hit are written, and the status says whether there is one
+    pub lines-written : IsRefused allowed OnlyMatching
+        → (world.output.contents ended.output ≡ Some (before ++ flat_map (line-text k meaning text)
+        (hits-placed k meaning text)))
+        × (ended.status ≡ (if nat_lt 0 (length (hit_lines k meaning text)) then 0 else 1))
+    lines-written whole =
+        let by = line-printer in
         let result = lines-searched facts first_at k run.matcher one.path text plain of.no_nul
-        chosen.0.printer.format alone.next writes (by-printer (Lines chosen.0) chosen.1) in
-        let totals = no-totals chosen.0
-        (chosen.2.1.counts ∙ not-counted allowed options only keeps)
-        (subst (λ p. AreTotals p run.findings.stats run.totals) chosen.1 run.are_totals) in (
+        by.counting.printer.format alone.next by.writes
+        (by.parts_as_asked ∙ has-none allowed options only OnlyMatching whole) (by-printer (Lines by.counting) by.is) in (
           all-written (flat_map (line-text k meaning text) (hits-placed k meaning text))
-              (result.0 ∙ hit-texts k meaning text) totals,
+              (result.0 ∙ hit-texts k meaning text) by.totals,
           status-known (nat_lt 0 (length (hit_lines k meaning text)))
               (result.1 ∙ ap (λ n. nat_lt 0 n) (length-hits k meaning text)),
         )
 
+    -- the matches in the lines that hit are written, each in a line of its own
+    pub matches-written : has options OnlyMatching ≡ true → k.invert_match ≡ false → k.line_number ≡ false
+        → world.output.contents ended.output
+        ≡ Some (before ++ flat_map (lines_of_matches regex) (hit_lines k meaning text))
+    matches-written parts plainly unnumbered =
+        let by = line-printer in
+        let config = by.counting.printer.format.format.config in
+        let asked = by.parts_as_asked ∙ parts in
+        let result = parts-searched facts first_at k run.matcher one.path text plain of.no_nul
+        by.counting.printer.format alone.next by.writes asked plainly
+        (by-printer (Lines by.counting) by.is) in
+        all-written (flat_map (lines_of_matches regex) (hit_lines k meaning text))
+        (result.0 ∙ parts-texts k meaning text regex (first_at run.matcher) run.is_matcher.first
+        (by-line-of k meaning plain) plain.by_feeds unnumbered (record { path = one.path; settings = k }) refl
+        config by.writes asked) by.totals
+
     -- without numbers, if it is known which lines hit
-    pub lines-unnumbered : (hit : List ℕ → Bool) → k.line_number ≡ false
+    pub lines-unnumbered : IsRefused allowed OnlyMatching → (hit : List ℕ → Bool) → k.line_number ≡ false
         → ((line : List ℕ) → is_hit k meaning line ≡ hit line)
         → world.output.contents ended.output ≡ Some (before
         ++ flat_map line_with_end (items_up_to k.max_matches (filter hit (lines 10 text))))
-    lines-unnumbered hit numbers same =
-        lines-written.0 ∙ ap (λ (t : List ℕ). Some (before ++ t))
+    lines-unnumbered whole hit numbers same =
+        (lines-written whole).0 ∙ ap (λ (t : List ℕ). Some (before ++ t))
         (unnumbered-texts k meaning text numbers
         ∙ (ap (λ (t : LineTerminator). flat_map (λ line. plain_line (byte_of t) 58 None line)
         (hit_lines k meaning text)) plain.by_feeds
         ∙ ap (flat_map line_with_end) (hits-known k meaning text hit plain.by_feeds same)))
 
     -- with numbers
-    pub lines-numbered : (hit : List ℕ → Bool) → k.line_number ≡ true → k.max_matches ≡ None
+    pub lines-numbered : IsRefused allowed OnlyMatching → (hit : List ℕ → Bool) → k.line_number ≡ true
+        → k.max_matches ≡ None
         → ((line : List ℕ) → is_hit k meaning line ≡ hit line)
         → world.output.contents ended.output ≡ Some (before
         ++ flat_map line_with_number (filter (λ one. hit one.1) (enumerate_from 0 (lines 10 text))))
-    lines-numbered hit numbers all same =
-        lines-written.0 ∙ ap (λ (t : List ℕ). Some (before ++ t))
+    lines-numbered whole hit numbers all same =
+        (lines-written whole).0 ∙ ap (λ (t : List ℕ). Some (before ++ t))
         (flat_map-agree (line-text k meaning text) line_with_number (hits-placed k meaning text)
         (λ i d below. numbered-text k (slice_index_or (hits-placed k meaning text) i d) plain.by_feeds
         numbers)

@@ -81,7 +81,7 @@ module _ (k : Settings) (meaning : Meaning) (bytes : List ℕ) where
   all = lines t bytes
 
   -- a line with its place, as a match
-  abbrev call-of : ℕ × List ℕ → Call
+  abbrev pub call-of : ℕ × List ℕ → Call
   call-of one = matches (number_of k one.0) (start k bytes one.0) one.1 no_surroundings
 
   abbrev hits-at : ℕ × List ℕ → Bool
@@ -118,7 +118,7 @@ module _ (k : Settings) (meaning : Meaning) (bytes : List ℕ) where
       go true later = ap (λ cs. match_of k bytes i ∷ cs) later
       go false later = later
 
-  hits-are : hit_matches k meaning bytes ≡ map call-of hits-placed
+  pub hits-are : hit_matches k meaning bytes ≡ map call-of hits-placed
   hits-are = ap (items_up_to k.max_matches) (filter-calls (line_count k bytes) 0 (omega arith))
       ∙ sym (map-up_to call-of k.max_matches (filter hits-at (enumerate_from 0 all)))
 
@@ -131,7 +131,7 @@ module _ (k : Settings) (meaning : Meaning) (bytes : List ℕ) where
   alone-text one alone = ap (plain_lines t 58 (number_of k one.0)) alone
       ∙ append-nil (line-text one)
 
-  all-alone : All (λ (one : ℕ × List ℕ). lines t one.1 ≡ one.1 ∷ []) hits-placed
+  pub all-alone : All (λ (one : ℕ × List ℕ). lines t one.1 ≡ one.1 ∷ []) hits-placed
   all-alone = All-up_to (λ one. lines t one.1 ≡ one.1 ∷ []) k.max_matches
       (filter hits-at (enumerate_from 0 all))
       (All-filter hits-at (λ one. lines t one.1 ≡ one.1 ∷ []) (enumerate_from 0 all)

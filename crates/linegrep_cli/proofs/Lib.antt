@@ -23,6 +23,7 @@ pub mod ToldLemmas
 pub mod VisitTextLemmas
 pub mod WaitingLemmas
 pub mod WordLemmas
+pub mod HitPartLemmas
 pub mod HitTextLemmas
 pub mod MatchPlanLemmas
 pub mod MatchWalkLemmas

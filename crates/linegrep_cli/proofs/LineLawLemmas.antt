@@ -14,14 +14,15 @@ use Rattle.grep_searcher.specs.Meanings.{MatcherFacts}
 use Rattle.grep_searcher.specs.Plans.{Settings}
 use Rattle.linegrep_cli.proofs.CorollaryLemmas.{count-written, hit-matches, hit-misses, hits-known, lines-numbered}
 use Rattle.linegrep_cli.proofs.CorollaryLemmas.{lines-unnumbered, lines-written, nothing-written}
-use Rattle.linegrep_cli.proofs.CorollaryLemmas.{path-written}
+use Rattle.linegrep_cli.proofs.CorollaryLemmas.{matches-written, path-written}
 use Rattle.linegrep_cli.proofs.HitTextLemmas.{some-pass}
 use Rattle.linegrep_cli.proofs.PlainRunLemmas.{KeepText, no-terminal, text_options}
 use Rattle.linegrep_cli.proofs.PlainSettingLemmas.{KeepLines, asked, plain-settings}
 use Rattle.linegrep_cli.proofs.UnusedOptionLemmas.{IsRefused, has-none, not-used, number-none, others}
 use Rattle.linegrep_cli.specs.Corollaries.{Claim, EachRunWith, TellsMatching, UseOnly, WritesFirst}
 use Rattle.linegrep_cli.specs.Corollaries.{WritesCount, WritesMatching, WritesNumbered, WritesOthers, line_of_count}
-use Rattle.linegrep_cli.specs.Corollaries.{WritesNothing, WritesPath, has_matching, is_among, is_matched_by, line_with_end}
+use Rattle.linegrep_cli.specs.Corollaries.{WritesMatches, WritesNothing, WritesPath, has_matching}
+use Rattle.linegrep_cli.specs.Corollaries.{is_among, is_matched_by, line_with_end, lines_of_matches}
 use Rattle.linegrep_cli.specs.OptionUses.{has}
 use Rattle.linegrep_cli.specs.SearchTexts.{settings_for}
 use Rattle.linegrep_cli.specs.SearcherOptions.{asked_settings, searcher_settings}
@@ -32,7 +33,8 @@ use Rattle.linegrep_options.specs.declared.option_id.OptionId.TheVariants.{Colum
 use Rattle.linegrep_options.specs.declared.option_id.OptionId.TheVariants.{InvertMatch}
 use Rattle.linegrep_options.specs.declared.option_id.OptionId.TheVariants.{Json, LineNumber}
 use Rattle.linegrep_options.specs.declared.option_id.OptionId.TheVariants.{MaxCount, NoLineNumber}
-use Rattle.linegrep_options.specs.declared.option_id.OptionId.TheVariants.{Pretty, Quiet, Vimgrep}
+use Rattle.linegrep_options.specs.declared.option_id.OptionId.TheVariants.{OnlyMatching, Pretty, Quiet}
+use Rattle.linegrep_options.specs.declared.option_id.OptionId.TheVariants.{Vimgrep}
 
 -- what the settings of a search say of lines that are looked for, and of their numbers
 module _ (allowed : List OptionId) (options : Options) (only : UseOnly allowed options)
@@ -95,7 +97,7 @@ module _ {S F R W X M : Type 0} (world : World S F R W X) (facts : M → Matcher
       let k = settings_for (searcher_settings options) one.quits in
       let plain = plain-settings [] options only refl one.quits in
       lines-unnumbered world system before facts first_at groups_at options regex input ended run
-      [] only refl one single text of refl refl nameless
+      [] only refl one single text of refl refl nameless refl
       (is_matched_by regex)
       (no-numbers [] options only refl refl one.quits refl refl)
       (hit-matches k (facts run.matcher).meaning regex plain.by_feeds run.is_matcher.meaning
@@ -111,7 +113,7 @@ module _ {S F R W X M : Type 0} (world : World S F R W X) (facts : M → Matcher
       let plain = plain-settings allowed options only refl one.quits in
       lines-unnumbered world system before facts first_at groups_at options regex input ended run
       allowed only refl one single text of refl refl
-      nameless (λ line. not (is_matched_by regex line))
+      nameless refl (λ line. not (is_matched_by regex line))
       (no-numbers allowed options only refl refl one.quits refl refl)
       (hit-misses k (facts run.matcher).meaning regex plain.by_feeds run.is_matcher.meaning
       (some-inversion allowed options only refl refl one.quits inverts))
@@ -126,7 +128,7 @@ module _ {S F R W X M : Type 0} (world : World S F R W X) (facts : M → Matcher
       let plain = plain-settings allowed options only refl one.quits in
       lines-numbered world system before facts first_at groups_at options regex input ended run
       allowed only refl one single text of refl refl
-      nameless (is_matched_by regex)
+      nameless refl (is_matched_by regex)
       (some-numbers allowed options only refl refl one.quits numbers refl)
       (no-limit allowed options only refl refl one.quits refl)
       (hit-matches k (facts run.matcher).meaning regex plain.by_feeds run.is_matcher.meaning
@@ -139,7 +141,7 @@ module _ {S F R W X M : Type 0} (world : World S F R W X) (facts : M → Matcher
       let plain = plain-settings allowed options only refl one.quits in
       lines-unnumbered world system before facts first_at groups_at options regex input ended run
       allowed only refl one single text of refl refl
-      nameless (is_matched_by regex)
+      nameless refl (is_matched_by regex)
       (no-numbers allowed options only refl refl one.quits refl refl)
       (hit-matches k (facts run.matcher).meaning regex plain.by_feeds run.is_matcher.meaning
       (no-inversion allowed options only refl refl one.quits refl))
@@ -170,7 +172,7 @@ module _ {S F R W X M : Type 0} (world : World S F R W X) (facts : M → Matcher
   each-told system before options input ended one text run only single of nameless =
       let allowed = LineNumber ∷ [] in
       (lines-written world system before facts first_at groups_at options regex input ended run
-      allowed only refl one single text of refl refl nameless).1
+      allowed only refl one single text of refl refl nameless refl).1
       ∙ ap (λ b. if b then 0 else 1) (some-hit options allowed only refl refl refl refl one.quits
       run.matcher text run.is_matcher.meaning)
 
@@ -192,6 +194,22 @@ module _ {S F R W X M : Type 0} (world : World S F R W X) (facts : M → Matcher
             (ap (λ (found : List (List ℕ)). nat_lt 0 (length found)) known
             ∙ some-pass (is_matched_by regex) (lines 10 text)),
       )
+
+  pub each-match : Each (OnlyMatching ∷ []) WritesMatches
+  each-match system before options input ended one text run only single of nameless parts =
+      let allowed = OnlyMatching ∷ [] in
+      let k = settings_for (searcher_settings options) one.quits in
+      let plain = plain-settings allowed options only refl one.quits in
+      matches-written world system before facts first_at groups_at options regex input ended run
+      allowed only refl one single text of refl refl nameless parts
+      (no-inversion allowed options only refl refl one.quits refl)
+      (no-numbers allowed options only refl refl one.quits refl refl)
+      ∙ ap (λ (hits : List (List ℕ)). Some (before ++ flat_map (lines_of_matches regex) hits))
+      (hits-known k (facts run.matcher).meaning text (is_matched_by regex) plain.by_feeds
+      (hit-matches k (facts run.matcher).meaning regex plain.by_feeds run.is_matcher.meaning
+      (no-inversion allowed options only refl refl one.quits refl))
+      ∙ ap (λ (most : Option ℕ). items_up_to most (filter (is_matched_by regex) (lines 10 text)))
+      (no-limit allowed options only refl refl one.quits refl))
 
   pub each-path : Each (FilesWithMatches ∷ []) WritesPath
   each-path system before options input ended one text run only single of lists shown named unlinked =

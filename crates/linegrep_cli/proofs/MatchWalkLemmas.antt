@@ -46,7 +46,8 @@ module _ {F : Type 0} (rules : Rules F) (scene : Scene) (HasParts : F → Printe
     pub begin : (format : F) (printed : PrintedCall) → Good 0 format → printed.call ≡ begins
         → IsStep true 0 format printed []
     pub match : (count : ℕ) (format : F) (printed : PrintedCall) → Good count format
-        → is_match printed.call ≡ true → IsStep on (suc count) format printed (text-of printed.call)
+        → HasParts format printed → is_match printed.call ≡ true
+        → IsStep on (suc count) format printed (text-of printed.call)
 
   -- what is made of some matches: their texts, and that of `finish`, after so many matches
   pub record IsMade (old : Printed F) (count : ℕ) (calls : List Call) (made : Printed F) : Type 0
@@ -106,7 +107,7 @@ module _ {F : Type 0} (rules : Rules F) (scene : Scene) (HasParts : F → Printe
     walk (one ∷ later) old count calls all good (first, rest, split, is, parts, goes) =
         let mid = printed_with rules scene old first in
         let (matches, unseen) = All-head IsMatch one later all in
-        let step = steps.match count old.format first good (ap is_match is ∙ matches) in
+        let step = steps.match count old.format first good parts (ap is_match is ∙ matches) in
         let text = ap (λ (t : List ℕ). old.text ++ t) (step.text_is ∙ ap text-of is) in
         subst (λ ps. IsMade old count (printed_of (one.call ∷ calls_of later) on)
         (fold (printed_with rules scene) old ps)) (sym split) (elim goes [

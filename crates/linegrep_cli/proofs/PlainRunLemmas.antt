@@ -55,7 +55,7 @@ KeepLook allowed = AreRefused allowed look_options
 
 -- the options that ask for something else than a count of lines
 abbrev pub count_options : List OptionId
-count_options = Quiet ∷ CountMatches ∷ IncludeZero ∷ []
+count_options = Quiet ∷ CountMatches ∷ IncludeZero ∷ OnlyMatching ∷ []
 
 abbrev pub KeepCount : List OptionId → Type 0
 KeepCount allowed = AreRefused allowed count_options
@@ -69,9 +69,9 @@ KeepPath allowed = AreRefused allowed path_options
 
 -- the options that change how each line looks
 abbrev pub text_options : List OptionId
-text_options = Json ∷ Vimgrep ∷ OnlyMatching ∷ Replace ∷ Heading ∷ Pretty ∷ Color ∷ Column
-    ∷ ByteOffset ∷ MaxColumns ∷ Trim ∷ Stats ∷ ContextSeparator ∷ NoContextSeparator
-    ∷ FieldMatchSeparator ∷ FieldContextSeparator ∷ []
+text_options = Json ∷ Vimgrep ∷ Replace ∷ Heading ∷ Pretty ∷ Color ∷ Column ∷ ByteOffset
+    ∷ MaxColumns ∷ Trim ∷ Stats ∷ ContextSeparator ∷ NoContextSeparator ∷ FieldMatchSeparator
+    ∷ FieldContextSeparator ∷ []
 
 abbrev pub KeepText : List OptionId → Type 0
 KeepText allowed = AreRefused allowed text_options
@@ -163,9 +163,14 @@ module _ (allowed : List OptionId) (options : Options) (only : UseOnly allowed o
           none Trim refl,
         )
             refl;
-        whole = ap (λ (c : Config). c.only_matching) same ∙ none OnlyMatching refl;
         no_heading = ap (λ (c : Config). c.heading) same ∙ no-heading;
       }
+
+  -- lines are written, or their parts
+  pub parts-as-asked : (colors : ColorSpecs) (separators : Option (Bor Separators)) (config : Config)
+      → config ≡ line_settings options colors separators
+      → config.only_matching ≡ has options OnlyMatching
+  parts-as-asked colors separators config is = ap (λ (c : Config). c.only_matching) is
 
   -- lines are written, and no summary
   pub no-summary : KeepLook allowed → (across : Bool)
@@ -186,7 +191,7 @@ module _ (allowed : List OptionId) (options : Options) (only : UseOnly allowed o
     no-other-count look Quiet refl,
     no-other-count look CountMatches refl,
     counts,
-    none OnlyMatching refl,
+    no-other-count look OnlyMatching refl,
     by-line,
     and-false (not (has options InvertMatch)),
   ) refl

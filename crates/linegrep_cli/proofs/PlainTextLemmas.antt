@@ -10,7 +10,7 @@ use Rattle.grep_printer.specs.Formats.{PrintedCall, Scene}
 use Rattle.grep_printer.specs.LineTexts.{end_byte, is_plain, plain_lines}
 use Rattle.grep_printer.specs.PartTexts.{column_of, match_text, writes_parts}
 use Rattle.grep_printer.specs.StandardTexts.{call_text, goes_on, is_hidden, layout_of}
-use Rattle.grep_printer.specs.StandardTexts.{progress_after, standard_rules, text_before}
+use Rattle.grep_printer.specs.StandardTexts.{progress_after, report_text, standard_rules, text_before}
 use Rattle.grep_printer.specs.declared.config.Config.{Config}
 use Rattle.grep_printer.specs.declared.counted.CountedFormat.{CountedFormat}
 use Rattle.grep_printer.specs.declared.standard.Progress.{Progress}
@@ -27,10 +27,9 @@ plain-text terminator (matches number offset bytes around) =
     plain_lines terminator 58 number (lines terminator bytes)
 plain-text terminator call = []
 
--- settings by which lines are written as they are
+-- settings by which lines, or parts in their place, are written as they are
 pub record WritesLines (config : Config) (scene : Scene) : Type 0 where
   pub plain : is_plain config scene.path ≡ true
-  pub whole : config.only_matching ≡ false
   pub no_heading : config.heading ≡ false
 
 -- nothing was written before a search, and no binary byte was found in it
@@ -52,31 +51,50 @@ module _ (config : Config) (progress : Progress) (scene : Scene) (count : ℕ)
   no-opening : text_before (layout_of config scene) progress ≡ []
   no-opening = none-either progress.is_open [] _ refl (rw (is.first, writes.no_heading) refl)
 
-  no-parts : (parts : List (ℕ × ℕ)) → writes_parts (layout_of config scene) parts ≡ false
-  no-parts parts = ap (λ b. b && not (length parts == 0)) writes.whole
+  no-parts : config.only_matching ≡ false → (parts : List (ℕ × ℕ))
+      → writes_parts (layout_of config scene) parts ≡ false
+  no-parts whole parts = ap (λ b. b && not (length parts == 0)) whole
 
-  match-lines : (number : Option ℕ) (offset : ℕ) (bytes : List ℕ) (parts : List (ℕ × ℕ))
+  match-lines : config.only_matching ≡ false → (number : Option ℕ) (offset : ℕ) (bytes : List ℕ)
+      (parts : List (ℕ × ℕ))
       → match_text (layout_of config scene) number offset bytes parts
       ≡ plain_lines (end_byte (layout_of config scene)) 58 number
       (lines (end_byte (layout_of config scene)) bytes)
-  match-lines number offset bytes parts = rw (no-parts parts)
+  match-lines whole number offset bytes parts = rw (no-parts whole parts)
       (lines-plain (layout_of config scene) _ writes.plain
       (record { number = number; column = column_of parts; offset = offset; start = 0 }) parts
       (lines (end_byte (layout_of config scene)) bytes))
 
-  pub call-plain : (call : Call) (parts : List (ℕ × ℕ)) → is_match call ≡ true
-      → call_text config progress scene call parts
-      ≡ plain-text (byte_of scene.settings.line_terminator) call
-  call-plain begins parts hit = absurd cc
-  call-plain (matches number offset bytes around) parts hit =
+  -- a report of a match is written, and nothing before it
+  pub call-shown : (call : Call) (parts : List (ℕ × ℕ)) → is_match call ≡ true
+      → call_text config progress scene call parts ≡ report_text (layout_of config scene) call parts
+  call-shown begins parts hit = absurd cc
+  call-shown (matches number offset bytes around) parts hit =
       ap (λ b. if b then [] else text_before (layout_of config scene) progress
       ++ match_text (layout_of config scene) number offset bytes parts) shown
-      ∙ (ap (λ (xs : List ℕ). xs ++ match_text (layout_of config scene) number offset bytes parts) no-opening
-      ∙ match-lines number offset bytes parts)
-  call-plain (context kind number offset line) parts hit = absurd cc
-  call-plain breaks parts hit = absurd cc
-  call-plain (binary_data offset) parts hit = absurd cc
-  call-plain (finishes bytes binary) parts hit = absurd cc
+      ∙ ap (λ (xs : List ℕ). xs ++ match_text (layout_of config scene) number offset bytes parts) no-opening
+  call-shown (context kind number offset line) parts hit = absurd cc
+  call-shown breaks parts hit = absurd cc
+  call-shown (binary_data offset) parts hit = absurd cc
+  call-shown (finishes bytes binary) parts hit = absurd cc
+
+  report-plain : config.only_matching ≡ false → (call : Call) (parts : List (ℕ × ℕ))
+      → is_match call ≡ true
+      → report_text (layout_of config scene) call parts
+      ≡ plain-text (byte_of scene.settings.line_terminator) call
+  report-plain whole begins parts hit = absurd cc
+  report-plain whole (matches number offset bytes around) parts hit =
+      match-lines whole number offset bytes parts
+  report-plain whole (context kind number offset line) parts hit = absurd cc
+  report-plain whole breaks parts hit = absurd cc
+  report-plain whole (binary_data offset) parts hit = absurd cc
+  report-plain whole (finishes bytes binary) parts hit = absurd cc
+
+  pub call-plain : config.only_matching ≡ false → (call : Call) (parts : List (ℕ × ℕ))
+      → is_match call ≡ true
+      → call_text config progress scene call parts
+      ≡ plain-text (byte_of scene.settings.line_terminator) call
+  call-plain whole call parts hit = call-shown call parts hit ∙ report-plain whole call parts hit
 
   -- after a match more
   pub match-more : (call : Call) → is_match call ≡ true
@@ -111,6 +129,7 @@ module _ (scene : Scene) where
   -- what a format that counts nothing keeps, after so many matches
   pub record IsPlainFormat (count : ℕ) (counted : CountedFormat StandardFormat) : Type 0 where
     pub writes : WritesLines counted.format.config scene
+    pub whole : counted.format.config.only_matching ≡ false
     pub progress : IsPlainProgress counted.format.progress count
 
   pub standard-steps : (HasParts : CountedFormat StandardFormat → PrintedCall → Type 0)
@@ -121,21 +140,64 @@ module _ (scene : Scene) where
       goes = ap (goes_on counted.format.progress scene.settings.binary_detection) is;
       good = record {
         writes = good.writes;
+        whole = good.whole;
         progress = subst (λ call. IsPlainProgress (progress_after counted.format.progress call) 0)
             (sym is) good.progress;
       };
       text_is = ap (λ call. call_text counted.format.config counted.format.progress scene call
           printed.parts) is;
     };
-    match = λ count counted printed good hit. record {
+    match = λ count counted printed good asked hit. record {
       goes = goes-on counted.format.config counted.format.progress scene count good.writes
           good.progress printed.call hit;
       good = record {
         writes = good.writes;
+        whole = good.whole;
         progress = match-more counted.format.config counted.format.progress scene count good.writes
             good.progress printed.call hit;
       };
       text_is = call-plain counted.format.config counted.format.progress scene count good.writes
-          good.progress printed.call printed.parts hit;
+          good.progress good.whole printed.call printed.parts hit;
+    };
+  }
+
+-- if parts are written in place of lines
+module _ (config : Config) (scene : Scene) (parts-of : Call → List (ℕ × ℕ)) where
+  -- what is kept after so many matches
+  pub record IsPartFormat (count : ℕ) (counted : CountedFormat StandardFormat) : Type 0 where
+    pub config_is : counted.format.config ≡ config
+    pub progress : IsPlainProgress counted.format.progress count
+
+  pub part-steps : (HasParts : CountedFormat StandardFormat → PrintedCall → Type 0)
+      → WritesLines config scene
+      → ((counted : CountedFormat StandardFormat) (printed : PrintedCall)
+      → counted.format.config ≡ config → is_match printed.call ≡ true → HasParts counted printed
+      → printed.parts ≡ parts-of printed.call)
+      → AreSteps (counted_rules standard_rules) scene HasParts IsPartFormat
+      (λ call. report_text (layout_of config scene) call (parts-of call)) true
+  part-steps HasParts writes has = record {
+    begin = λ counted printed good is. record {
+      goes = ap (goes_on counted.format.progress scene.settings.binary_detection) is;
+      good = record {
+        config_is = good.config_is;
+        progress = subst (λ call. IsPlainProgress (progress_after counted.format.progress call) 0)
+            (sym is) good.progress;
+      };
+      text_is = ap (λ call. call_text counted.format.config counted.format.progress scene call
+          printed.parts) is;
+    };
+    match = λ count counted printed good asked hit. record {
+      goes = goes-on config counted.format.progress scene count writes good.progress printed.call hit;
+      good = record {
+        config_is = good.config_is;
+        progress = match-more config counted.format.progress scene count writes good.progress
+            printed.call hit;
+      };
+      text_is = ap (λ c. call_text c counted.format.progress scene printed.call printed.parts)
+          good.config_is
+          ∙ (call-shown config counted.format.progress scene count writes good.progress printed.call
+          printed.parts hit
+          ∙ ap (report_text (layout_of config scene) printed.call)
+          (has counted printed good.config_is hit asked));
     };
   }

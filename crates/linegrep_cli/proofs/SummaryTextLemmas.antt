@@ -51,7 +51,7 @@ module _ (config : SummaryConfig) (scene : Scene) where
       };
       text_is = ap (summary_text counted.format.config counted.format.counts scene) is;
     };
-    match = λ count counted printed good hit. step count counted printed good printed.call refl hit;
+    match = λ count counted printed good asked hit. step count counted printed good printed.call refl hit;
   }
     where
       step : (count : ℕ) (counted : CountedFormat SummaryFormat) (printed : PrintedCall)

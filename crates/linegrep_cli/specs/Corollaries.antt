@@ -2,14 +2,15 @@
 -- of it are written, their number, or its path, and the status.
 use Rattle.std.specs.Prelude.{◌≡◌, ◌≢◌, ℕ, ◌+◌, Bool, true, false, not, ◌&&◌, nat_lt}
 use Rattle.std.specs.Prelude.{if◌then◌else◌, All, List, [], ◌∷◌, ◌++◌, decimal, length}
-use Rattle.std.specs.Prelude.{filter, take, Option, None, Some, is_some}
+use Rattle.std.specs.Prelude.{◌==◌, filter, slice_range, take, Option, None, Some, is_some}
 use Rattle.std.specs.Borrow.{Bor}
 use Rattle.std.specs.List.{enumerate_from, flat_map, list_any}
 use Rattle.std.specs.declared.alloc.AllocError.{AllocError}
 use Rattle.grep_printer.specs.LineTexts.{missing_end}
 use Rattle.grep_printer.specs.StatsSums.{capped}
 use Rattle.grep_printer.specs.declared.hyperlinks.PrinterPath.{PrinterPath}
-use Rattle.grep_regex.specs.Views.{regex_meaning}
+use Rattle.grep_printer.specs.MatchedParts.{first_from, parts_in}
+use Rattle.grep_regex.specs.Views.{regex_first_at, regex_meaning}
 use Rattle.grep_regex.specs.declared.regex.Regex.{Regex}
 use Rattle.grep_searcher.specs.Lines.{lines, strip}
 use Rattle.grep_searcher.specs.Meanings.{MatcherFacts}
@@ -114,6 +115,18 @@ line_with_number one = decimal (one.0 + 1) ++ 58 ∷ line_with_end one.1
 abbrev pub line_of_count : ℕ → List ℕ
 line_of_count count = if nat_lt 0 count then decimal count ++ 10 ∷ [] else []
 
+-- where the successive matches in a line are, without its line feed
+abbrev pub match_places : Regex → List ℕ → List (ℕ × ℕ)
+match_places regex line =
+    parts_in (first_from (regex_first_at regex (strip (Byte 10) line)) 0)
+    (length (strip (Byte 10) line)) (length line)
+
+-- each match in a line of its own. If there is none, as of `$` at the end of a text, it is the line
+abbrev pub lines_of_matches : Regex → List ℕ → List ℕ
+lines_of_matches regex line = if length (match_places regex line) == 0 then line_with_end line
+    else flat_map (λ place. line_with_end (slice_range line place.0 place.1))
+    (match_places regex line)
+
 -- What is said of a run: by its options, the expression that it searches for, the path that is
 -- written of its input, the text that it searches, whether it has written a text, and its status
 abbrev pub Claim : Type 1
@@ -150,6 +163,12 @@ WritesCount options regex path text IsWritten status =
     path ≡ None → has options Count ≡ true
     → IsWritten (line_of_count (capped (length (matching_lines regex text))))
     × (status ≡ (if has_matching regex text then 0 else 1))
+
+-- `linegrep -o P FILE`: the matches in the lines that match are, each in a line of its own
+abbrev pub WritesMatches : Claim
+WritesMatches options regex path text IsWritten status =
+    path ≡ None → has options OnlyMatching ≡ true
+    → IsWritten (flat_map (lines_of_matches regex) (matching_lines regex text))
 
 -- `linegrep -l P FILE`: the path is written, as it is shown, if a line matches. The status says
 -- whether one does
@@ -217,3 +236,6 @@ module _ {S F R W X : Type 0} (world : World S F R W X) where
 
   abbrev pub QuietRunsWriteNothing : Type 0
   QuietRunsWriteNothing = EachRun (Quiet ∷ []) WritesNothing
+
+  abbrev pub MatchesAreWritten : Type 0
+  MatchesAreWritten = EachRun (OnlyMatching ∷ []) WritesMatches

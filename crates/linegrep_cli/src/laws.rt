@@ -5,7 +5,7 @@
 //! a file, but for those that the law names. Any others may be used: those that say what the
 //! pattern means, those that choose files, and those about what standard error says.
 ghost use Rattle.linegrep_cli.specs.Corollaries.{FirstLinesAreWritten, MatchingLinesAreCounted};
-ghost use Rattle.linegrep_cli.specs.Corollaries.{MatchingLinesAreWritten};
+ghost use Rattle.linegrep_cli.specs.Corollaries.{MatchesAreWritten, MatchingLinesAreWritten};
 ghost use Rattle.linegrep_cli.specs.Corollaries.{NumberedLinesAreWritten, OtherLinesAreWritten};
 ghost use Rattle.linegrep_cli.specs.Corollaries.{PathsAreWritten, QuietRunsWriteNothing};
 ghost use Rattle.linegrep_cli.specs.Corollaries.{StatusesTellMatching};
@@ -52,6 +52,12 @@ pub fn statuses_tell_matching<S: System, R: Source, W: Output, E: Output>()
 /// nothing. The status is 0 if a line matches, and 1 if none does.
 pub fn matching_lines_are_counted<S: System, R: Source, W: Output, E: Output>()
     ensures { MatchingLinesAreCounted
+        (world_of S.System.own S.Open S.Folders S.File.Read R.Source W.Output E.Output) }
+{}
+
+/// `linegrep -o P FILE` writes each match in the lines that match, in order, in a line of its own.
+pub fn matches_are_written<S: System, R: Source, W: Output, E: Output>()
+    ensures { MatchesAreWritten
         (world_of S.System.own S.Open S.Folders S.File.Read R.Source W.Output E.Output) }
 {}
 
