@@ -17,8 +17,6 @@ mod replaced;
 mod sink;
 mod spans;
 mod stdin;
-#[cfg(test)]
-mod tests;
 
 pub use closure::first_matches;
 pub use files::simplegrep;

@@ -1,5 +1,5 @@
-//! Each example on values worked by hand.
-use crate::{
+//! The examples of upstream's pages, each on values worked by hand.
+use examples::{
     all_matches, count_in_folder, counts, first_match, first_matches, in_encoding, json_messages,
     longest_match, match_count, matches_any, matches_word, named_group, replaced_lines,
     search_stdin, simplegrep, standard_lines, swapped, write_matches,
