@@ -139,11 +139,12 @@ module _ {S F R W X : Type 0} (message : AllocError → Option (List ℕ)) (worl
   folders = facts_of system
 
   -- an answer, unless nobody reads it
-  answered : (text : List ℕ) (input : R) (output : W) (ended : Ended R W) → contents output ≡ Some before
-      → ended.status ≢ 2 → IsAnswered write_step text input output ended
+  answered : (text : List ℕ) (input : R) (output : W) (errors : X) (ended : Ended R W) (errors' : X)
+      → contents output ≡ Some before → ended.status ≢ 2
+      → IsAnswered write_step world.errors.step text input output errors ended errors'
       → IsClosed write_step ended.output
       ⊎ ((ended.status ≡ 0) × (contents ended.output ≡ Some (before ++ text)))
-  answered text input output ended held other is = by is.written is.flushed is.status
+  answered text input output errors ended errors' held other is = by is.written is.flushed is.status
     where
       by : (written : Result (Unit {0}) Error) → Flushes write_step output text written ended.output
           → HasAnswerStatus written ended.status
@@ -364,10 +365,10 @@ module _ {S F R W X : Type 0} (message : AllocError → Option (List ℕ)) (worl
       | inr otherwise ↦ inr (done (λ visits. absurd (otherwise visits)))
     ]
 
-    by-answer : (options : Options) (text : List ℕ) → IsAnswer options text
-        → IsAnswered world.output.step text input output ended → Done options
-    by-answer options text is answer = elim (answered message world system grows before options text input output ended
-        held other answer) [
+    by-answer : (options : Options) (text : List ℕ) (said : X) → IsAnswer options text
+        → IsAnswered world.output.step world.errors.step text input output said ended errors' → Done options
+    by-answer options text said is answer = elim (answered message world system grows before options text input output
+        said ended errors' held other answer) [
           | inl unread ↦ inl unread
           | inr (zero, taken) ↦ inr (of_answer text is zero answer.unread taken)
         ]
@@ -375,9 +376,9 @@ module _ {S F R W X : Type 0} (message : AllocError → Option (List ℕ)) (worl
     by-options : (options : Options) (said : X)
         → IsOptionsRun message world system options input output said ended errors' → Done options
     by-options options said (without_memory (failure, memory, refused)) = absurd (other refused.status)
-    by-options options said (of_text text asked answer) = by-answer options text (inl asked) answer
+    by-options options said (of_text text asked answer) = by-answer options text said (inl asked) answer
     by-options options said (of_types text none types list answer) =
-        by-answer options text (inr (none, types, list)) answer
+        by-answer options text said (inr (none, types, list)) answer
     by-options options said (of_refusal mid failure none caused refused) = absurd (other refused.status)
     by-options options said (OfListing none types together lists (inl refused)) = absurd (other refused.refused.status)
     by-options options said (OfListing none types together lists (inr listing)) =

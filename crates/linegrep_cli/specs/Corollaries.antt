@@ -121,7 +121,8 @@ match_places regex line =
     parts_in (first_from (regex_first_at regex (strip (Byte 10) line)) 0)
     (length (strip (Byte 10) line)) (length line)
 
--- each match in a line of its own. If there is none, as of `$` at the end of a text, it is the line
+-- Each match in a line of its own. There is none if all that matches is the end of a text that
+-- doesn't end in a line feed, as with `$`: then it is the line.
 abbrev pub lines_of_matches : Regex → List ℕ → List ℕ
 lines_of_matches regex line = if length (match_places regex line) == 0 then line_with_end line
     else flat_map (λ place. line_with_end (slice_range line place.0 place.1))

@@ -33,7 +33,7 @@ use Rattle.linegrep_cli.specs.OptionUses.{has}
 use Rattle.linegrep_cli.specs.OptionValues.{AreLists, AreOptions, names_input}
 use Rattle.linegrep_cli.specs.Listings.{IsListingRun}
 use Rattle.linegrep_cli.specs.Refusals.{IsCause, IsCauseForFiles, IsRefusedFor, IsRefusedWith}
-use Rattle.linegrep_cli.specs.Refusals.{IsRefusedWithoutMemory}
+use Rattle.linegrep_cli.specs.Refusals.{IsRefusedWithoutMemory, IsSaid}
 use Rattle.linegrep_cli.specs.WholeRuns.{IsWholeRun}
 use Rattle.linegrep_cli.specs.Worlds.{World}
 use Rattle.linegrep_cli.specs.declared.lists.Lists.{Lists}
@@ -53,13 +53,24 @@ HasAnswerStatus (Ok u) status = status ≡ 0
 HasAnswerStatus (Err error) status = ((error_kind error ≡ BrokenPipe) × (status ≡ 0))
     ⊎ ((error_kind error ≢ BrokenPipe) × (status ≡ 2))
 
--- a text is the answer, as help is: it is written and flushed, and nothing is read
-pub record IsAnswered {R W : Type 0} (write_step : W → OutputCall → W → Type 0) (text : List ℕ)
-    (input : R) (output : W) (ended : Ended R W) : Type 0 where
+-- what standard error has after a text is written: nothing more, unless writing failed and somebody
+-- reads the text
+abbrev pub IsFailureSaid : {X : Type 0} → (X → OutputCall → X → Type 0) → Result (Unit {0}) Error
+    → X → X → Type 0
+IsFailureSaid say_step (Ok u) errors errors' = errors' ≡ errors
+IsFailureSaid say_step (Err error) errors errors' =
+    ((error_kind error ≡ BrokenPipe) × (errors' ≡ errors))
+    ⊎ ((error_kind error ≢ BrokenPipe) × (text : List ℕ) × IsSaid say_step text errors errors')
+
+-- a text is the answer, as help is: it is written and flushed, and nothing is read or said
+pub record IsAnswered {R W X : Type 0} (write_step : W → OutputCall → W → Type 0)
+    (say_step : X → OutputCall → X → Type 0) (text : List ℕ) (input : R) (output : W) (errors : X)
+    (ended : Ended R W) (errors' : X) : Type 0 where
   pub unread : ended.input ≡ input
   pub written : Result (Unit {0}) Error
   pub flushed : Flushes write_step output text written ended.output
   pub status : HasAnswerStatus written ended.status
+  pub said : IsFailureSaid say_step written errors errors'
 
 -- the kind of the text that is to be generated, if one is
 abbrev pub kind_asked : List Use → List ℕ
@@ -117,11 +128,11 @@ module _ {S F R W X : Type 0} (message : AllocError → Option (List ℕ)) (worl
         → IsOptionsRun options input output errors ended errors'
     of_text : {ended : Ended R W} {errors' : X} (text : List ℕ)
         → text_asked options ≡ Some text
-        → IsAnswered world.output.step text input output ended
+        → IsAnswered world.output.step world.errors.step text input output errors ended errors'
         → IsOptionsRun options input output errors ended errors'
     of_types : {ended : Ended R W} {errors' : X} (text : List ℕ)
         → text_asked options ≡ None → has options TypeList ≡ true → IsTypeListOf options.types text
-        → IsAnswered world.output.step text input output ended
+        → IsAnswered world.output.step world.errors.step text input output errors ended errors'
         → IsOptionsRun options input output errors ended errors'
     of_refusal : {ended : Ended R W} {errors' : X} (mid : R) (failure : Failure)
         → text_asked options ≡ None → (has_cause failure ≡ true

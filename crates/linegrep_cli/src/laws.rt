@@ -55,7 +55,8 @@ pub fn matching_lines_are_counted<S: System, R: Source, W: Output, E: Output>()
         (world_of S.System.own S.Open S.Folders S.File.Read R.Source W.Output E.Output) }
 {}
 
-/// `linegrep -o P FILE` writes each match in the lines that match, in order, in a line of its own.
+/// `linegrep -o P FILE` writes each match in the lines that match, in order, in a line of its own. A
+/// line without a line feed at its end is written whole if all that matches is its end.
 pub fn matches_are_written<S: System, R: Source, W: Output, E: Output>()
     ensures { MatchesAreWritten
         (world_of S.System.own S.Open S.Folders S.File.Read R.Source W.Output E.Output) }
@@ -68,8 +69,8 @@ pub fn paths_with_match_are_written<S: System, R: Source, W: Output, E: Output>(
         (world_of S.System.own S.Open S.Folders S.File.Read R.Source W.Output E.Output) }
 {}
 
-/// `linegrep -q P FILE` writes nothing, and if its status is 1, no line matches. A run whose status
-/// is 1 has searched the whole file.
+/// If `linegrep -q P FILE` has searched the whole file, it has written nothing, and its status is 0
+/// if a line matches, and 1 if none does. Each run whose status is 1 has done so.
 pub fn quiet_runs_write_nothing<S: System, R: Source, W: Output, E: Output>()
     ensures { QuietRunsWriteNothing
         (world_of S.System.own S.Open S.Folders S.File.Read R.Source W.Output E.Output) }

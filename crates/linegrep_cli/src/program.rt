@@ -208,6 +208,8 @@ fn run_parsed<S: System, R: Source + Drop, W: Output + Drop, E: Output>(
     run_options(rt, system, &lists, &options, input, output, errors)
 }
 
+// Writes a text as the answer. If that fails, standard error gets a message, unless nobody reads
+// the text.
 fn write_answer<R, W: Output, E: Output>(
     alloc: Global,
     text: &str,
@@ -215,7 +217,7 @@ fn write_answer<R, W: Output, E: Output>(
     mut output: W,
     errors: &mut E,
 ) -> Ended<R, W>
-    ensures { IsAnswered W.step text.now input output result }
+    ensures { IsAnswered W.step E.step text.now input output errors.old result errors.new }
 {
     match write_whole(&mut output, text) {
         Err(error) if error.kind() != io::ErrorKind::BrokenPipe => {
@@ -229,6 +231,7 @@ fn write_answer<R, W: Output, E: Output>(
     }
 }
 
+// Writes and flushes a text.
 fn write_whole<W: Output>(output: &mut W, text: &str) -> io::Result<()>
     ensures { Flushes W.step output.old text.now result output.new }
 {
