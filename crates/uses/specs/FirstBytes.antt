@@ -1,6 +1,6 @@
 -- How many lines begin with each byte.
-use Rattle.std.specs.Prelude.{◌≡◌, ℕ, ◌+◌, ◌-◌, ◌<◌, ◌^◌, ◌==◌, min, Bool, List, [], ◌∷◌, count_by}
-use Rattle.std.specs.Prelude.{slice_index_or, slice_set}
+use Rattle.std.specs.Prelude.{◌≡◌, ℕ, ◌+◌, ◌-◌, ◌<◌, ◌^◌, ◌==◌, min, Bool, List, [], ◌∷◌}
+use Rattle.std.specs.Prelude.{count_by, slice_index_or, slice_set}
 use Rattle.grep_searcher.specs.Plans.{Call, reported_bytes}
 
 -- whether the lines of a match begin with a byte

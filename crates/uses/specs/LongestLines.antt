@@ -1,7 +1,6 @@
 -- The longest of some lines.
-use Rattle.std.specs.Prelude.{◌≡◌, ◌<◌, ◌≤◌, nat_lt, if◌then◌else◌, List, [], ◌∷◌, ◌++◌, length}
-use Rattle.std.specs.Prelude.{All}
-use Rattle.std.specs.Prelude.{Option, None, Some}
+use Rattle.std.specs.Prelude.{◌≡◌, ◌<◌, ◌≤◌, nat_lt, if◌then◌else◌, All, List, [], ◌∷◌, ◌++◌}
+use Rattle.std.specs.Prelude.{length, Option, None, Some}
 use Rattle.grep_searcher.specs.MatchHandlers.{KeptReport, kept_of}
 use Rattle.grep_searcher.specs.Plans.{Call, reported_bytes}
 

@@ -14,8 +14,8 @@ use grep_searcher::{Matcher, SearchError, Searcher, SinkMatch};
 use std::alloc::Global;
 use std::marker::Model;
 
-/// Returns how many of the lines of `bytes`, decoded, that hit begin with each byte: at the index
-/// of the byte.
+/// Counts the lines of `bytes`, decoded, that hit by their first byte. The result has 256 counts:
+/// at the index 97 it has how many of these lines begin with the byte 97, for example.
 ///
 /// That is promised of a search by line without binary detection and without a stop, with a matcher
 /// that is lawful for the searcher's terminator, and without a limit or without a context after

@@ -16,9 +16,9 @@ use grep_searcher::{Matcher, SearchError, Searcher, SinkMatch};
 use std::alloc::Global;
 use std::marker::Model;
 
-/// Returns the longest line of `bytes`, decoded, that hits, by its bytes and its terminator: with
-/// its number and its offset, and the first if there are more of that length. Only one other is
-/// held at a time.
+/// Returns the longest of the lines of `bytes`, decoded, that hit, with its number and its offset.
+/// The length of a line is in bytes, with its terminator. If several are as long, it is the first
+/// of them. Of the lines so far, only the longest is kept.
 ///
 /// That is promised of a search by line without binary detection and without a stop, with a matcher
 /// that is lawful for the searcher's terminator, and without a limit or without a context after
@@ -68,7 +68,7 @@ impl Model for Longest {
 }
 
 impl Longest {
-    // What it kept.
+    // The line that it has kept, if it has one.
     fn into_line(self) -> Option<KeptMatch>
         ensures { result ≡ self }
     {

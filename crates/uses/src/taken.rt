@@ -17,8 +17,9 @@ use std::alloc::{Allocator, Global};
 use std::marker::Model;
 
 /// Returns the first lines of `bytes` in which a matcher has a match, at most `limit`, each with
-/// its number, its offset and its bytes; and how many bytes come up to the end of the last of them,
-/// if there are `limit`, or else the length of `bytes`. So a next call can go on from there.
+/// its number, its offset and its bytes, and how many bytes were searched. If there are `limit`
+/// such lines, these are the bytes up to the end of the last one, so that a next call can go on
+/// from there; at the limit 0 there are none. If there are fewer lines, these are all bytes.
 ///
 /// That is promised for a matcher that is lawful for a line feed. An error is made of the
 /// matcher's, or of its line terminator, if it declares another one, or of being out of memory.
@@ -73,7 +74,7 @@ impl Model for Lines {
 }
 
 impl Lines {
-    // What it kept.
+    // The lines that it has kept, and the byte count.
     fn into_parts(self) -> (Vec<KeptMatch>, u64)
         ensures lines { result.0.items ≡ self.lines }
         ensures byte_count { result.1 ≡ self.byte_count }
