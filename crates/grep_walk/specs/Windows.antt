@@ -1,10 +1,11 @@
 -- A walk over the lines of an input of which a window is shown. No contract of grep_searcher cites
 -- these definitions.
-use Rattle.std.specs.Prelude.{◌≡◌, ℕ, ◌+◌, ◌-◌, ◌≤◌, min, List, ◌++◌, length}
+use Rattle.std.specs.Prelude.{◌≡◌, ℕ, ◌+◌, ◌-◌, ◌<◌, ◌≤◌, min, List, ◌++◌, length, take, drop}
 use Rattle.grep_matcher.specs.Lines.{byte_of, lines}
 use Rattle.grep_matcher.specs.Meanings.{Meaning}
 use Rattle.grep_lines.specs.Positions.{IsLine, IsLineStart}
 use Rattle.grep_definitions.specs.Plans.{Settings, Steps}
+use Rattle.grep_definitions.specs.Searches.{IsClosed}
 use Rattle.grep_walk.specs.declared.walk.Walk.{Walk}
 use Rattle.grep_walk.specs.Walks.{AreCounts, HasReported, with_counts}
 use Rattle.grep_walk.specs.Origins.{Origin}
@@ -33,7 +34,24 @@ pub record IsInWindow (settings : Settings) (gone window input : List ℕ) (star
   pub kept : length (lines (byte_of settings.line_terminator) gone)
       + min settings.before_context (w.line - w.next_unreported) ≤ w.line
 
--- such a walk has made the calls of the lines before it, from an origin on
+-- A walk that is at the end of a window is in the next one too, which begins with what is kept of
+-- that window from an index on: whatever is shown with it, whatever comes after that, and also if
+-- the walk's lines are counted anew.
+abbrev pub IsInNextWindow : Settings → List ℕ → ℕ → Walk → Type 0
+IsInNextWindow settings window kept w =
+    (gone more after : List ℕ)
+    → IsClosed (byte_of settings.line_terminator) gone
+    → IsClosed (byte_of settings.line_terminator) window
+    → (0 < length after
+    → IsClosed (byte_of settings.line_terminator) (drop kept window ++ more))
+    → (line next_unreported : ℕ) → AreCounts settings w line next_unreported
+    → IsInWindow settings gone window (gone ++ (window ++ (more ++ after)))
+    (length window) (with_counts w line next_unreported)
+    → IsInWindow settings (gone ++ take kept window)
+    (drop kept window ++ more) (gone ++ (window ++ (more ++ after)))
+    (length window - kept) (with_counts w line next_unreported)
+
+-- a walk that is in a window has made the calls of the lines before it, from an origin on
 pub record HasWalked {S E : Type 0} (step : Steps S E) (settings : Settings) (meaning : Meaning)
     (gone window input : List ℕ) (first : Origin S) (start : ℕ) (w : Walk) (now : S) : Type 0 where
   pub inside : IsInWindow settings gone window input start w

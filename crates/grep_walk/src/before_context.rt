@@ -6,8 +6,7 @@ ghost use Rattle.grep_matcher.specs.Lines.{byte_of, lines};
 ghost use Rattle.grep_lines.specs.Positions.{IsLineStart};
 ghost use Rattle.grep_definitions.specs.Searches.{IsClosed};
 ghost use Rattle.grep_definitions.specs.LineCalls.{breaks_near};
-ghost use Rattle.grep_walk.specs.Walks.{AreCounts, with_counts};
-ghost use Rattle.grep_walk.specs.Windows.{IsInWindow};
+ghost use Rattle.grep_walk.specs.Windows.{IsInNextWindow};
 
 use crate::config::Config;
 use crate::walk::Walk;
@@ -55,17 +54,7 @@ impl Config {
             → IsClosed (byte_of self.now.line_terminator) window.now
             → IsClosed (byte_of self.now.line_terminator)
             (gone ++ take result window.now) }
-        ensures kept { (gone more after : List ℕ)
-            → IsClosed (byte_of self.now.line_terminator) gone
-            → IsClosed (byte_of self.now.line_terminator) window.now
-            → (0 < length after
-            → IsClosed (byte_of self.now.line_terminator) (drop result window.now ++ more))
-            → (line next_unreported : ℕ) → AreCounts self.now walk.now line next_unreported
-            → IsInWindow self.now gone window.now (gone ++ (window.now ++ (more ++ after)))
-            (length window.now) (with_counts walk.now line next_unreported)
-            → IsInWindow self.now (gone ++ take result window.now)
-            (drop result window.now ++ more) (gone ++ (window.now ++ (more ++ after)))
-            (length window.now - result) (with_counts walk.now line next_unreported) }
+        ensures kept { IsInNextWindow self.now window.now result walk.now }
     {
         let near = self.lines_before(walk);
         self.step_back(window, window.len(), near)
