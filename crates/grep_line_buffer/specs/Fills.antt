@@ -131,3 +131,19 @@ module _ {R : Type 0} (remaining : R → Option (List ℕ)) (step : R → ReadRe
     pub fault : FailsWith step reader error reader'
     pub uncut : has_quit new ≡ false
     pub waiting : WaitsForMore decoder'
+
+  -- Fills continue. Reads of a decoder gave some bytes since the first fill, and what detection
+  -- makes of these is what was consumed and then what is held. After one more fill the same holds
+  -- of the bytes that were given by then, and the offset of the first binary byte is where it is
+  -- among them.
+  abbrev pub FillsContinue : Type 0
+  FillsContinue =
+      (old new : BufferState) (d d1 d2 : DecoderState) (r r1 r2 : R) (gone given : List ℕ)
+      → Decodes remaining step d r given d1 r1
+      → gone ++ held_bytes old ≡ detected_bytes old.detection old.terminator given
+      → old.offset ≡ length gone → old.binary ≡ found_in old.detection old.terminator given
+      → has_quit old ≡ false → (fill : Fills old d1 r1 new d2 r2)
+      → Decodes remaining step d r (given ++ fill.given) d2 r2
+      × (gone ++ held_bytes new
+      ≡ detected_bytes old.detection old.terminator (given ++ fill.given))
+      × (new.binary ≡ found_in old.detection old.terminator (given ++ fill.given))
