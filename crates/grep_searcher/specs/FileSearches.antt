@@ -4,8 +4,9 @@ use Rattle.std.specs.Io.KnownBytes.{Consumes, Keeps}
 use Rattle.std.specs.declared.io.Error.{Error}
 use Rattle.grep_decode.specs.Source.{ReadResult}
 use Rattle.grep_report.specs.ErrorMakers.{ErrorMakers}
-use Rattle.grep_matcher.specs.Meanings.{MatcherFacts}
-use Rattle.grep_definitions.specs.Searches.{IsInOrder, IsReaderSearched, IsReadingError}
+use Rattle.grep_matcher.specs.Meanings.{MatcherFacts, Meaning}
+use Rattle.grep_definitions.specs.Searches.{EndsUnread, IsInOrder, IsReaderSearched}
+use Rattle.grep_definitions.specs.Searches.{IsReadingError}
 use Rattle.grep_definitions.specs.Plans.{Steps, SearcherState, Settings}
 
 -- a read of a file, if it says which bytes remain: what it returned was their front, and an error
@@ -21,6 +22,12 @@ module _ {F : Type 0} (remaining : F → Option (List ℕ))
   IsFileSearched state file old result file' new =
       IsReaderSearched remaining (IsFileRead remaining) step errors matcher state file old result
       file' new
+
+-- the error of a search of a file is made of one by which the file wasn't read to its end
+abbrev pub EndsFileUnread : {F E : Type 0} → (F → Option (List ℕ)) → (Error → E → Type 0)
+    → SearcherState → Meaning → F → E → F → Type 0
+EndsFileUnread remaining is_io state meaning file e file' =
+    EndsUnread remaining (IsFileRead remaining) is_io state meaning file e file'
 
 -- what opening the file at a path may return, if the path's text is known; else at some path
 abbrev pub OpensAt : {F : Type 0} → (List ℕ → Result F Error → Type 0) → Option (List ℕ)

@@ -22,6 +22,7 @@ pub mod MatcherFailures
 pub mod PassedCalls
 pub mod PassedLines
 pub mod QuittingSinks
+pub mod ReadSearches
 pub mod ReportedLines
 pub mod Rolls
 pub mod RunInvariants
@@ -31,6 +32,7 @@ pub mod SearchedInputs
 pub mod SinkFolds
 pub mod TakenLines
 pub mod Units
+pub mod WindowSearches
 pub use Rattle.grep_definitions.specs.BuiltSettings
 pub use Rattle.grep_definitions.specs.Plans
 pub use Rattle.grep_definitions.specs.Searches

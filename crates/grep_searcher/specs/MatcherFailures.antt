@@ -1,12 +1,12 @@
 -- Why a search fails, also if its matcher may fail.
-use Rattle.std.specs.Prelude.{◌≡◌, ◌⊎◌, ℕ, Bool, List, Option, None, Err}
-use Rattle.std.specs.declared.io.Error.{Error}
+use Rattle.std.specs.Prelude.{◌≡◌, ◌⊎◌, ℕ, List, Option, None, Err}
 use Rattle.grep_decode.specs.Source.{ReadResult}
 use Rattle.grep_matcher.specs.Meanings.{MatcherFacts}
 use Rattle.grep_report.specs.ErrorMakers.{ErrorMakers}
 use Rattle.grep_definitions.specs.Plans.{IsLawful, refusal_of, SearcherState, Settings, Steps}
-use Rattle.grep_definitions.specs.Searches.{IsReaderSearched, IsUnread}
-use Rattle.grep_definitions.specs.SliceSearches.{IsSliceSearched, IsUndecoded}
+use Rattle.grep_definitions.specs.Searches.{EndsUnread, IsReaderSearched}
+use Rattle.grep_definitions.specs.SliceSearches.{IsSliceSearched}
+use Rattle.grep_searcher.specs.SearchFailures.{EndsUndecoded}
 use Rattle.grep_searcher.specs.SinkFolds.{FailsAtStep}
 
 -- the matcher is lawful for the search, which isn't refused; the matcher may fail
@@ -31,8 +31,7 @@ module _ {S E F : Type 0} (step : Steps S E) (errors : ErrorMakers F E)
       → IsSliceSearched step errors matcher state input old (Err e) new
       → FailsAtStep step errors matcher state.settings e new
       ⊎ (FailsAtQuestion errors matcher e
-      ⊎ ((begun : Bool) × (seen : List ℕ) × (error : Error)
-      × IsUndecoded state matcher.meaning input begun seen error × errors.is_io error e))
+      ⊎ EndsUndecoded errors.is_io state matcher.meaning input e)
 
   -- and one of a reader that of a step, or of a question, or the reader wasn't read to its end
   abbrev pub ReadersFailFor : {R : Type 0} → (R → Option (List ℕ)) → (R → ReadResult → R → Type 0)
@@ -44,6 +43,4 @@ module _ {S E F : Type 0} (step : Steps S E) (errors : ErrorMakers F E)
       (Err e) reader' new
       → FailsAtStep step errors matcher state.settings e new
       ⊎ (FailsAtQuestion errors matcher e
-      ⊎ ((begun : Bool) × (seen : List ℕ) × (error : Error)
-      × IsUnread remaining read_step state matcher.meaning reader begun seen error reader'
-      × errors.is_io error e))
+      ⊎ EndsUnread remaining read_step errors.is_io state matcher.meaning reader e reader')

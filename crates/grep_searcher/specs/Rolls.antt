@@ -112,6 +112,17 @@ module _ {S E : Type 0} (step : Steps S E) (settings : Settings) (meaning : Mean
         → (IsLast (byte_of settings.line_terminator) old.shown (start_in old w) → after ≡ [])
         → IsCountedFor first (gone ++ (old.shown ++ after)) w'.offset outcome now'
 
+  -- the search ended within what a buffer shows in this error, the sink's or the matcher's,
+  -- whatever comes after that
+  abbrev pub FailsInShown : {F : Type 0} → ErrorMakers F E → MatcherFacts F → BufferState → Walk → S
+      → E → S → Type 0
+  FailsInShown errors matcher old w now e now' =
+      (gone : List ℕ) (first : Origin S)
+      → IsInShown gone old.shown (start_in old w) first w now
+      → (after : List ℕ) → (0 < length after
+      → IsClosed (byte_of settings.line_terminator) old.shown)
+      → IsWalkFault step errors matcher settings (gone ++ (old.shown ++ after)) first e now'
+
   module _ {R : Type 0} (remaining : R → Option (List ℕ))
       (read_step : R → ReadResult → R → Type 0) where
     -- a search that reads on: what is gone and what is held is what detection makes of the bytes

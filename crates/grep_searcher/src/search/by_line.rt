@@ -1,6 +1,6 @@
 //! The walk of a search by line: over all lines of a slice, or over those of a window, with the
 //! calls that they make.
-ghost use Rattle.std.specs.Prelude.{◌≡◌, ◌≤◌, ◌<◌, ◌+◌, ◌-◌, ◌^◌, ℕ, true, false, length, List};
+ghost use Rattle.std.specs.Prelude.{◌≡◌, ◌≤◌, ◌<◌, ◌+◌, ◌-◌, ◌^◌, true, false, length};
 ghost use Rattle.std.specs.Prelude.{Err, IfOk, IfErr, IsOk};
 ghost use Rattle.grep_matcher.specs.Meanings.{IsInfallible};
 ghost use Rattle.grep_definitions.specs.Plans.{line_plan};
@@ -10,11 +10,9 @@ ghost use Rattle.grep_definitions.specs.Plans.{counted, IsLawful, Outcome, Never
 ghost use Rattle.grep_definitions.specs.Searches.{nowhere};
 ghost use Rattle.grep_definitions.specs.SliceSearches.{IsContentsSearch};
 ghost use Rattle.grep_walk.specs.LookAheads.{AreQuestions};
-ghost use Rattle.grep_walk.specs.WalkFaults.{IsWalkFault};
 ghost use Rattle.grep_walk.specs.Walks.{IsOrdered};
-ghost use Rattle.grep_walk.specs.Windows.{HasSearched, HasPassed};
-ghost use Rattle.grep_walk.specs.Origins.{IsMadeToFrom, Origin};
 ghost use Rattle.grep_report.specs.ErrorMakers.{makers_of};
+ghost use Rattle.grep_searcher.specs.WindowSearches.{EndsInWindow, FailsInWindow, PassesWindow};
 
 use crate::search::Search;
 use crate::search::chosen_lines::Offered;
@@ -95,29 +93,18 @@ impl<'s, A: Allocator + Copy> Search<'s, A> {
             walk.new.offset + start ≤ walk.old.offset + length window.now) }
         ensures ahead { IfOk result (λ goes_on. walk.old.offset ≤ walk.new.offset) }
         ensures goes_on { IfOk result (λ goes_on.
-            IsLawful (M.facts matcher.now) self.now.config
-            → goes_on ≡ true → (gone input : List ℕ) (first : Origin S)
-            → HasSearched S.step self.now.config (M.facts matcher.now).meaning gone window.now input
-            first start walk.old sink.old
-            → HasPassed S.step self.now.config (M.facts matcher.now).meaning gone window.now input
-            first walk.new sink.new) }
+            IsLawful (M.facts matcher.now) self.now.config → goes_on ≡ true
+            → PassesWindow S.step self.now.config (M.facts matcher.now).meaning window.now start
+            walk.old sink.old walk.new sink.new) }
         ensures ends { IfOk result (λ goes_on.
-            IsLawful (M.facts matcher.now) self.now.config
-            → goes_on ≡ false → (outcome : Outcome S.Error)
-            × ((gone input : List ℕ) (first : Origin S)
-            → HasSearched S.step self.now.config (M.facts matcher.now).meaning gone window.now input
-            first start walk.old sink.old
-            → IsMadeToFrom S.step self.now.config first
-            (line_plan self.now.config (M.facts matcher.now).meaning input)
-            outcome (counted walk.new.offset) sink.new)) }
+            IsLawful (M.facts matcher.now) self.now.config → goes_on ≡ false
+            → EndsInWindow S.step self.now.config (M.facts matcher.now).meaning window.now start
+            walk.old sink.old walk.new sink.new) }
         ensures fault { IfErr result (λ e.
             IsLawful (M.facts matcher.now) self.now.config
-            → (gone input : List ℕ) (first : Origin S)
-            → HasSearched S.step self.now.config (M.facts matcher.now).meaning gone window.now input
-            first start walk.old sink.old
-            → IsWalkFault S.step
-            (makers_of M.Error.output S.Error.makers) (M.facts matcher.now)
-            self.now.config input first e sink.new) }
+            → FailsInWindow S.step self.now.config
+            (makers_of M.Error.output S.Error.makers) (M.facts matcher.now) window.now start
+            walk.old sink.old e sink.new) }
         ensures succeeds { NeverFails S.step S.may_call → IsInfallible (M.facts matcher.now).fails
             → IsOk result }
         ensures in_order { GoesOnInOrder S.step self.now.config

@@ -1,11 +1,12 @@
 //! The search of a reader across lines, for which all of it is read first.
-ghost use Rattle.std.specs.Prelude.{◌≡◌, Bool, true, false, IfErr};
-ghost use Rattle.grep_matcher.specs.Meanings.{IsInfallible};
+ghost use Rattle.std.specs.Prelude.{◌≡◌, true, false, IfErr};
 ghost use Rattle.grep_decode.specs.DecoderStates.{started};
-ghost use Rattle.grep_definitions.specs.Searches.{look_at, EndsUnread, IsRead, IsInOrder};
+ghost use Rattle.grep_definitions.specs.Searches.{look_at, IsInOrder};
 ghost use Rattle.grep_definitions.specs.Searches.{IsReadingError};
-ghost use Rattle.grep_definitions.specs.Plans.{is_across, NeverFails};
+ghost use Rattle.grep_definitions.specs.Plans.{is_across};
 ghost use Rattle.grep_report.specs.ErrorMakers.{makers_of};
+ghost use Rattle.grep_searcher.specs.ReadSearches.{EndsUnreadByAny, IsReadByAny};
+ghost use Rattle.grep_searcher.specs.SearchFailures.{IfNoneFails};
 
 use crate::search::Search;
 use crate::search::read_by_line::io_error;
@@ -33,20 +34,17 @@ impl<'s, A: Allocator + Copy> Search<'s, A> {
             self.now.config.bom_sniffing }
         requires may_call { S.may_call sink.old }
         ensures searched { is_across self.now.config (M.facts matcher.now).meaning ≡ true
-            → (has_buffers : Bool) → IsRead R.remaining R.step S.step
+            → IsReadByAny R.remaining R.step S.step
             (makers_of M.Error.output S.Error.makers) (M.facts matcher.now)
-            (record { settings = self.now.config; has_buffers = has_buffers })
-            (look_at self.now.config.binary_detection false)
+            self.now.config (look_at self.now.config.binary_detection false)
             reader.old sink.old result reader.new sink.new }
         ensures in_order { IsInOrder S.step
             (makers_of M.Error.output S.Error.makers) (M.facts matcher.now) self.now.config
             (IsReadingError R.remaining R.step reader.old reader.new) sink.old result sink.new }
-        ensures succeeds { NeverFails S.step S.may_call → IsInfallible (M.facts matcher.now).fails
-            → is_across self.now.config (M.facts matcher.now).meaning ≡ true
-            → IfErr result (λ e. (has_buffers : Bool) → EndsUnread R.remaining R.step
-            S.Error.makers.is_io
-            (record { settings = self.now.config; has_buffers = has_buffers })
-            (M.facts matcher.now).meaning reader.old e reader.new) }
+        ensures succeeds { IfNoneFails S.step S.may_call (M.facts matcher.now)
+            (is_across self.now.config (M.facts matcher.now).meaning ≡ true
+            → IfErr result (λ e. EndsUnreadByAny R.remaining R.step S.Error.makers.is_io
+            self.now.config (M.facts matcher.now).meaning reader.old e reader.new)) }
         ensures may_call { S.may_call sink.new }
     {
         if let Err(error) = read_contents(decoder, reader, self.heap_limit(), contents) {

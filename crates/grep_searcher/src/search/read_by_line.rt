@@ -1,25 +1,24 @@
 //! The search of a reader, fill by fill of a line buffer. It follows grep-searcher's module
 //! `searcher::glue`.
-ghost use Rattle.std.specs.Prelude.{◌^◌, ◌≡◌, ◌≤◌, ◌<◌, ◌+◌, ◌++◌, ℕ, Bool, List, Option, Ok, true};
+ghost use Rattle.std.specs.Prelude.{◌^◌, ◌≡◌, ◌≤◌, ◌<◌, ◌+◌, ℕ, Option, true};
 ghost use Rattle.std.specs.Prelude.{false, length, IfOk, IfErr, IsOk, OnErr, OnOk, Err, None};
 ghost use Rattle.grep_matcher.specs.Lines.{byte_of};
 ghost use Rattle.grep_matcher.specs.Meanings.{IsInfallible};
 ghost use Rattle.grep_decode.specs.DecoderStates.{started};
 ghost use Rattle.grep_line_buffer.specs.BufferStates.{empty_buffer, held_bytes};
-ghost use Rattle.grep_definitions.specs.Plans.{is_at, is_across, IsLawful, begins, NeverFails};
+ghost use Rattle.grep_definitions.specs.Plans.{is_at, is_across, IsLawful, NeverFails};
 ghost use Rattle.grep_definitions.specs.Searches.{is_detecting, look_of, on_stream, IsReadingError};
-ghost use Rattle.grep_definitions.specs.Searches.{EndsUnread, IsClosed, IsReadForLine, reads_lines};
-ghost use Rattle.grep_definitions.specs.Searches.{reports_nothing, IsInOrder, IsRead};
+ghost use Rattle.grep_definitions.specs.Searches.{IsReadForLine, reads_lines};
+ghost use Rattle.grep_definitions.specs.Searches.{reports_nothing, IsInOrder};
 ghost use Rattle.grep_definitions.specs.CallOrder.{GoesOnInOrder, HasBegunTo, ReadsInOrder};
 ghost use Rattle.grep_searcher.specs.BinaryCalls.{FailsAtBinary, PassesBinary};
-ghost use Rattle.grep_searcher.specs.Rolls.{IsInShown, HasStarted, HasMovedOn, HasEnded};
+ghost use Rattle.grep_searcher.specs.Rolls.{FailsInShown, HasStarted, HasMovedOn, HasEnded};
 ghost use Rattle.grep_searcher.specs.Rolls.{IsStreamCounted};
-ghost use Rattle.grep_searcher.specs.Rolls.{start_in};
+ghost use Rattle.grep_searcher.specs.ReadSearches.{EndsUnreadByAny, IfBegun, IsReadByAny};
+ghost use Rattle.grep_searcher.specs.SearchFailures.{IfNoneFails};
 ghost use Rattle.grep_searcher.specs.SearchBuffers.{AreFitting, IsFitting, IsMadeOf, detection_of};
 ghost use Rattle.grep_walk.specs.LookAheads.{AreQuestions};
-ghost use Rattle.grep_walk.specs.WalkFaults.{IsWalkFault};
 ghost use Rattle.grep_walk.specs.Walks.{IsOrdered};
-ghost use Rattle.grep_walk.specs.Origins.{Origin};
 ghost use Rattle.grep_report.specs.ErrorMakers.{makers_of};
 
 use crate::search::Search;
@@ -54,20 +53,17 @@ impl<'s, A: Allocator + Copy> Search<'s, A> {
         requires may_call { S.may_call sink.old }
         ensures fitting { AreFitting self.now.config buffers.new }
         ensures searched { IsLawful (M.facts matcher.now) self.now.config
-            → (has_buffers : Bool) → IsRead R.remaining R.step S.step
+            → IsReadByAny R.remaining R.step S.step
             (makers_of M.Error.output S.Error.makers) (M.facts matcher.now)
-            (record { settings = self.now.config; has_buffers = has_buffers })
-            (look_of self.now.config (M.facts matcher.now).meaning false)
+            self.now.config (look_of self.now.config (M.facts matcher.now).meaning false)
             reader.old sink.old result reader.new sink.new }
         ensures in_order { IsInOrder S.step
             (makers_of M.Error.output S.Error.makers) (M.facts matcher.now) self.now.config
             (IsReadingError R.remaining R.step reader.old reader.new) sink.old result sink.new }
-        ensures succeeds { NeverFails S.step S.may_call → IsInfallible (M.facts matcher.now).fails
-            → IsLawful (M.facts matcher.now) self.now.config
-            → IfErr result (λ e. (has_buffers : Bool) → EndsUnread R.remaining R.step
-            S.Error.makers.is_io
-            (record { settings = self.now.config; has_buffers = has_buffers })
-            (M.facts matcher.now).meaning reader.old e reader.new) }
+        ensures succeeds { IfNoneFails S.step S.may_call (M.facts matcher.now)
+            (IsLawful (M.facts matcher.now) self.now.config
+            → IfErr result (λ e. EndsUnreadByAny R.remaining R.step S.Error.makers.is_io
+            self.now.config (M.facts matcher.now).meaning reader.old e reader.new)) }
         ensures may_call { S.may_call sink.new }
     {
         if self.config.is_across(matcher) {
@@ -109,10 +105,9 @@ impl<'s, A: Allocator + Copy> Search<'s, A> {
             reader.new sink.new) }
         ensures fault { IfErr result (λ e.
             IsLawful (M.facts matcher.now) self.now.config
-            → (has_buffers : Bool) → IsRead R.remaining R.step S.step
+            → IsReadByAny R.remaining R.step S.step
             (makers_of M.Error.output S.Error.makers) (M.facts matcher.now)
-            (record { settings = self.now.config; has_buffers = has_buffers })
-            on_stream reader.old sink.old (Err e) reader.new sink.new) }
+            self.now.config on_stream reader.old sink.old (Err e) reader.new sink.new) }
         ensures in_order { IfOk result (λ finish.
             HasBegunTo S.step self.now.config 1 sink.old finish.byte_count sink.new) }
         ensures noted { IfOk result (λ finish.
@@ -121,12 +116,10 @@ impl<'s, A: Allocator + Copy> Search<'s, A> {
         ensures broken { IfErr result (λ e. IsInOrder S.step
             (makers_of M.Error.output S.Error.makers) (M.facts matcher.now) self.now.config
             (IsReadingError R.remaining R.step reader.old reader.new) sink.old (Err e) sink.new) }
-        ensures succeeds { NeverFails S.step S.may_call → IsInfallible (M.facts matcher.now).fails
-            → IsLawful (M.facts matcher.now) self.now.config
-            → IfErr result (λ e. (has_buffers : Bool) → EndsUnread R.remaining R.step
-            S.Error.makers.is_io
-            (record { settings = self.now.config; has_buffers = has_buffers })
-            (M.facts matcher.now).meaning reader.old e reader.new) }
+        ensures succeeds { IfNoneFails S.step S.may_call (M.facts matcher.now)
+            (IsLawful (M.facts matcher.now) self.now.config
+            → IfErr result (λ e. EndsUnreadByAny R.remaining R.step S.Error.makers.is_io
+            self.now.config (M.facts matcher.now).meaning reader.old e reader.new)) }
         ensures may_call { S.may_call sink.new }
     {
         if !sink.begin(self.searcher)? {
@@ -178,34 +171,28 @@ impl<'s, A: Allocator + Copy> Search<'s, A> {
             (byte_of self.now.config.line_terminator) lines.new }
         ensures counted { IfOk result (λ count.
             IsLawful (M.facts matcher.now) self.now.config
-            → (first : S)
-            → S.step first self.now.config begins (Ok true) sink.old
-            → IsStreamCounted S.step self.now.config (M.facts matcher.now).meaning
+            → IfBegun S.step self.now.config sink.old (λ first.
+            IsStreamCounted S.step self.now.config (M.facts matcher.now).meaning
             R.remaining R.step reader.old first
-            (record { count = count; binary = binary.new }) reader.new sink.new) }
+            (record { count = count; binary = binary.new }) reader.new sink.new)) }
         ensures once { OnOk result (reports_nothing self.now.config ≡ true
             → IsReadForLine R.remaining R.step self.now.config reader.old reader.new) }
         ensures fault { IfErr result (λ e.
             IsLawful (M.facts matcher.now) self.now.config
-            → (first : S)
-            → S.step first self.now.config begins (Ok true) sink.old
-            → (has_buffers : Bool) → IsRead R.remaining R.step S.step
+            → IfBegun S.step self.now.config sink.old (λ first.
+            IsReadByAny R.remaining R.step S.step
             (makers_of M.Error.output S.Error.makers) (M.facts matcher.now)
-            (record { settings = self.now.config; has_buffers = has_buffers })
-            on_stream reader.old first (Err e) reader.new sink.new) }
+            self.now.config on_stream reader.old first (Err e) reader.new sink.new)) }
         ensures in_order { ReadsInOrder S.step self.now.config
             (makers_of M.Error.output S.Error.makers) (M.facts matcher.now)
             (IsReadingError R.remaining R.step reader.old reader.new) sink.old result sink.new }
         ensures noted { OnOk result (is_detecting self.now.config.binary_detection ≡ false
             → binary.new ≡ None) }
-        ensures succeeds { NeverFails S.step S.may_call → IsInfallible (M.facts matcher.now).fails
-            → IsLawful (M.facts matcher.now) self.now.config
-            → IfErr result (λ e. (first : S)
-            → S.step first self.now.config begins (Ok true) sink.old
-            → (has_buffers : Bool) → EndsUnread R.remaining R.step
-            S.Error.makers.is_io
-            (record { settings = self.now.config; has_buffers = has_buffers })
-            (M.facts matcher.now).meaning reader.old e reader.new) }
+        ensures succeeds { IfNoneFails S.step S.may_call (M.facts matcher.now)
+            (IsLawful (M.facts matcher.now) self.now.config
+            → IfErr result (λ e. IfBegun S.step self.now.config sink.old (λ first.
+            EndsUnreadByAny R.remaining R.step S.Error.makers.is_io
+            self.now.config (M.facts matcher.now).meaning reader.old e reader.new))) }
         ensures may_call { S.may_call sink.new }
     {
         let questions = self.config.questions(matcher);
@@ -292,15 +279,9 @@ impl<'s, A: Allocator + Copy> Search<'s, A> {
             lines.old walk.old sink.old walk.new sink.new) }
         ensures fault { IfErr result (λ e.
             IsLawful (M.facts matcher.now) self.now.config
-            → (gone : List ℕ) (first : Origin S)
-            → IsInShown S.step self.now.config (M.facts matcher.now).meaning gone lines.old.shown
-            (start_in lines.old walk.old) first walk.old sink.old
-            → (after : List ℕ)
-            → (0 < length after → IsClosed
-            (byte_of self.now.config.line_terminator) lines.old.shown)
-            → IsWalkFault S.step
+            → FailsInShown S.step self.now.config (M.facts matcher.now).meaning
             (makers_of M.Error.output S.Error.makers) (M.facts matcher.now)
-            self.now.config (gone ++ (lines.old.shown ++ after)) first e sink.new) }
+            lines.old walk.old sink.old e sink.new) }
         ensures kept { OnErr result (lines.new ≡ lines.old) }
         ensures room { length (held_bytes lines.old) ≤ lines.old.size }
         ensures succeeds { NeverFails S.step S.may_call → IsInfallible (M.facts matcher.now).fails

@@ -1,19 +1,18 @@
 //! What a walk reports of a line: the lines before a match, the match, a line after one, or any
 //! line under `passthru`.
-ghost use Rattle.std.specs.Prelude.{◌≡◌, ◌≤◌, ◌<◌, ◌+◌, ◌-◌, ◌^◌, ℕ, true, List, length, IsOk};
+ghost use Rattle.std.specs.Prelude.{◌≡◌, ◌≤◌, ◌<◌, ◌+◌, ◌-◌, ◌^◌, ℕ, length, IsOk};
 ghost use Rattle.std.specs.Prelude.{slice_range};
 ghost use Rattle.grep_definitions.specs.CallOrder.{HasCalled};
 ghost use Rattle.grep_definitions.specs.Plans.{context, AreMade, NeverFails};
 ghost use Rattle.grep_definitions.specs.LineCalls.{break_calls, after_calls};
 ghost use Rattle.grep_definitions.specs.SearchLaws.{number_of};
-ghost use Rattle.grep_searcher.specs.ReportedLines.{around_in};
+ghost use Rattle.grep_searcher.specs.ReportedLines.{AreLineCallsMade, ArePendingCallsMade};
+ghost use Rattle.grep_searcher.specs.ReportedLines.{ArePendingCallsMadeFrom, around_in};
 ghost use Rattle.grep_matcher.specs.Lines.{byte_of};
 ghost use Rattle.grep_report.specs.SinkReports.{match_bytes, match_surroundings};
-ghost use Rattle.grep_definitions.specs.LineCalls.{before_calls, pending_calls, selected_calls};
+ghost use Rattle.grep_definitions.specs.LineCalls.{before_calls, selected_calls};
 ghost use Rattle.grep_definitions.specs.SinkRuns.{outcome_of};
-ghost use Rattle.grep_walk.specs.Walks.{chooses, counts_lines, line_calls, line_end};
-ghost use Rattle.grep_walk.specs.Walks.{trails};
-ghost use Rattle.grep_walk.specs.Windows.{IsInWindow, IsLineIn};
+ghost use Rattle.grep_walk.specs.Walks.{chooses, trails};
 
 use crate::search::Search;
 use crate::sink::Sink;
@@ -56,13 +55,9 @@ impl<'s, A: Allocator + Copy> Search<'s, A> {
         requires number { walk.now.line + 1 < 2 ^ 64 }
         requires low { walk.now.next_unreported ≤ walk.now.line }
         requires may_call { S.may_call sink.old }
-        ensures reported { (gone input : List ℕ)
-            → (counts_lines self.now.config ≡ true
-            → IsInWindow self.now.config gone window.now input start walk.now)
-            → AreMade S.step self.now.config sink.old
-            (line_calls self.now.config input walk.now (slice_range window.now start end)
-            (around_in reach window.now start end) (chooses verdict) (trails verdict))
-            (outcome_of (line_end walk.now (slice_range window.now start end)) result) sink.new }
+        ensures reported { AreLineCallsMade S.step self.now.config window.now start walk.now
+            (slice_range window.now start end) (around_in reach window.now start end)
+            (chooses verdict) (trails verdict) sink.old result sink.new }
         ensures succeeds { NeverFails S.step S.may_call → IsOk result }
         ensures called { (stop : ℕ) → HasCalled S.step self.now.config 0 sink.old
             (outcome_of stop result) sink.new }
@@ -152,13 +147,8 @@ impl<'s, A: Allocator + Copy> Search<'s, A> {
         requires number { walk.now.line + 1 < 2 ^ 64 }
         requires low { walk.now.next_unreported ≤ walk.now.line }
         requires may_call { S.may_call sink.old }
-        ensures reported { (gone input : List ℕ)
-            → (counts_lines self.now.config ≡ true
-            → IsInWindow self.now.config gone window.now input start walk.now)
-            → (end : ℕ) → AreMade S.step self.now.config sink.old
-            (pending_calls self.now.config input walk.now.next_unreported walk.now.line end
-            walk.now.next_unreported (walk.now.line - walk.now.next_unreported))
-            (outcome_of end result) sink.new }
+        ensures reported { ArePendingCallsMade S.step self.now.config window.now start walk.now
+            sink.old result sink.new }
         ensures succeeds { NeverFails S.step S.may_call → IsOk result }
         ensures called { (end : ℕ) → HasCalled S.step self.now.config 0 sink.old
             (outcome_of end result) sink.new }
@@ -191,13 +181,8 @@ impl<'s, A: Allocator + Copy> Search<'s, A> {
         requires below { index ≤ walk.now.line }
         requires near { walk.now.line - index ≤ self.now.config.before_context }
         requires may_call { S.may_call sink.old }
-        ensures reported { (gone input : List ℕ)
-            → IsInWindow self.now.config gone window.now input start walk.now
-            → IsLineIn self.now.config gone window.now first index
-            → (end : ℕ) → AreMade S.step self.now.config sink.old
-            (pending_calls self.now.config input walk.now.next_unreported walk.now.line end
-            index (walk.now.line - index))
-            (outcome_of end result) sink.new }
+        ensures reported { ArePendingCallsMadeFrom S.step self.now.config window.now start walk.now
+            first index sink.old result sink.new }
         ensures succeeds { NeverFails S.step S.may_call → IsOk result }
         ensures called { (end : ℕ) → HasCalled S.step self.now.config 0 sink.old
             (outcome_of end result) sink.new }

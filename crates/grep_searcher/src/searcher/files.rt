@@ -1,12 +1,13 @@
 //! Searches of files.
-ghost use Rattle.std.specs.Prelude.{◌≡◌, true, ℕ, Bool, List, None, IfErr, OnOk};
+ghost use Rattle.std.specs.Prelude.{◌≡◌, true, None, IfErr, OnOk};
 ghost use Rattle.std.specs.declared.io.Error.{Error};
 ghost use Rattle.grep_definitions.specs.Plans.{IsLawful, refusal_of, NeverFails};
-ghost use Rattle.grep_searcher.specs.FileSearches.{IsFileRead, IsFileSearched, IsPathInOrder};
-ghost use Rattle.grep_searcher.specs.FileSearches.{IsPathSearched};
-ghost use Rattle.grep_definitions.specs.Searches.{IsInOrder, IsReadingError, IsUnread};
+ghost use Rattle.grep_searcher.specs.FileSearches.{EndsFileUnread, IsFileRead, IsFileSearched};
+ghost use Rattle.grep_searcher.specs.FileSearches.{IsPathInOrder, IsPathSearched};
+ghost use Rattle.grep_definitions.specs.Searches.{IsInOrder, IsReadingError};
 ghost use Rattle.grep_matcher.specs.Meanings.{IsInfallible};
 ghost use Rattle.grep_report.specs.ErrorMakers.{makers_of};
+ghost use Rattle.grep_searcher.specs.SearchFailures.{IfNoneFails};
 
 use crate::open::Open;
 use crate::searcher::Searcher;
@@ -49,12 +50,11 @@ impl<A: Allocator + Copy> Searcher<A> {
             (makers_of M.Error.output S.Error.makers) (M.facts matcher) self.old.settings
             (IsReadingError F.remaining (IsFileRead F.remaining) file.old file.new)
             sink.old result sink.new }
-        ensures succeeds { NeverFails S.step S.may_call → IsInfallible (M.facts matcher).fails
-            → IsLawful (M.facts matcher) self.old.settings
+        ensures succeeds { IfNoneFails S.step S.may_call (M.facts matcher)
+            (IsLawful (M.facts matcher) self.old.settings
             → refusal_of self.old.settings (M.facts matcher).meaning ≡ None
-            → IfErr result (λ e. (begun : Bool) × (seen : List ℕ) × (error : Error)
-            × IsUnread F.remaining (IsFileRead F.remaining) self.old (M.facts matcher).meaning
-            file.old begun seen error file.new × S.Error.makers.is_io error e) }
+            → IfErr result (λ e. EndsFileUnread F.remaining S.Error.makers.is_io
+            self.old (M.facts matcher).meaning file.old e file.new)) }
         ensures may_call { S.may_call sink.new }
     {
         self.search_reader(matcher, &mut Opened { file }, sink)

@@ -1,11 +1,10 @@
 //! Searches of readers.
-ghost use Rattle.std.specs.Prelude.{◌≡◌, ℕ, Bool, true, false, List, None, IfErr, OnOk};
-ghost use Rattle.std.specs.declared.io.Error.{Error};
-ghost use Rattle.grep_matcher.specs.Meanings.{IsInfallible};
-ghost use Rattle.grep_definitions.specs.Plans.{IsLawful, refusal_of, NeverFails, is_at};
-ghost use Rattle.grep_definitions.specs.Searches.{look_of, IsInOrder, IsRead, IsReaderSearched};
-ghost use Rattle.grep_definitions.specs.Searches.{IsReadingError, IsUnread};
+ghost use Rattle.std.specs.Prelude.{◌≡◌, true, false, None, IfErr, OnOk};
+ghost use Rattle.grep_definitions.specs.Plans.{IsLawful, refusal_of, is_at};
+ghost use Rattle.grep_definitions.specs.Searches.{look_of, EndsUnread, IsInOrder, IsRead};
+ghost use Rattle.grep_definitions.specs.Searches.{IsReaderSearched, IsReadingError};
 ghost use Rattle.grep_report.specs.ErrorMakers.{makers_of};
+ghost use Rattle.grep_searcher.specs.SearchFailures.{IfNoneFails};
 
 use crate::searcher::Searcher;
 use crate::sink::Sink;
@@ -74,13 +73,11 @@ impl<A: Allocator + Copy> Searcher<A> {
             → IsInOrder S.step
             (makers_of M.Error.output S.Error.makers) (M.facts matcher) self.old.settings
             (IsReadingError R.remaining R.step reader.old reader.new) sink.old result sink.new }
-        ensures succeeds { NeverFails S.step S.may_call → IsInfallible (M.facts matcher).fails
-            → IsLawful (M.facts matcher) self.old.settings
+        ensures succeeds { IfNoneFails S.step S.may_call (M.facts matcher)
+            (IsLawful (M.facts matcher) self.old.settings
             → refusal_of self.old.settings (M.facts matcher).meaning ≡ None
-            → IfErr result (λ e. (begun : Bool) × (seen : List ℕ) × (error : Error)
-            × IsUnread R.remaining R.step self.old
-            (M.facts matcher).meaning reader.old begun seen error reader.new
-            × S.Error.makers.is_io error e) }
+            → IfErr result (λ e. EndsUnread R.remaining R.step S.Error.makers.is_io
+            self.old (M.facts matcher).meaning reader.old e reader.new)) }
         ensures may_call { S.may_call sink.new }
     {
         if let Some(refusal) = self.config.refusal(&matcher) {
@@ -112,12 +109,10 @@ impl<A: Allocator + Copy> Searcher<A> {
         ensures in_order { IsInOrder S.step
             (makers_of M.Error.output S.Error.makers) (M.facts matcher.now) self.old.settings
             (IsReadingError R.remaining R.step reader.old reader.new) sink.old result sink.new }
-        ensures succeeds { NeverFails S.step S.may_call → IsInfallible (M.facts matcher.now).fails
-            → IsLawful (M.facts matcher.now) self.old.settings
-            → IfErr result (λ e. (begun : Bool) × (seen : List ℕ) × (error : Error)
-            × IsUnread R.remaining R.step self.old
-            (M.facts matcher.now).meaning reader.old begun seen error reader.new
-            × S.Error.makers.is_io error e) }
+        ensures succeeds { IfNoneFails S.step S.may_call (M.facts matcher.now)
+            (IsLawful (M.facts matcher.now) self.old.settings
+            → IfErr result (λ e. EndsUnread R.remaining R.step S.Error.makers.is_io
+            self.old (M.facts matcher.now).meaning reader.old e reader.new)) }
         ensures may_call { S.may_call sink.new }
     {
         let mut buffers = match self.take_buffers() {

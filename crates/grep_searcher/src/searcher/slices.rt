@@ -1,12 +1,11 @@
 //! Searches of slices.
-ghost use Rattle.std.specs.Prelude.{◌≡◌, ℕ, Bool, true, false, List, None, IfErr, IsOk};
-ghost use Rattle.std.specs.declared.io.Error.{Error};
+ghost use Rattle.std.specs.Prelude.{◌≡◌, true, false, None, IfErr, IsOk};
 ghost use Rattle.grep_matcher.specs.Meanings.{IsInfallible};
 ghost use Rattle.grep_definitions.specs.Plans.{IsLawful, refusal_of, NeverFails, is_at};
 ghost use Rattle.grep_definitions.specs.Searches.{IsInOrder, IsOwnError};
 ghost use Rattle.grep_definitions.specs.SliceSearches.{is_searched_unchanged, IsSliceSearched};
-ghost use Rattle.grep_definitions.specs.SliceSearches.{IsUndecoded};
 ghost use Rattle.grep_report.specs.ErrorMakers.{makers_of};
+ghost use Rattle.grep_searcher.specs.SearchFailures.{EndsUndecoded, IfNoneFails};
 
 use crate::searcher::Searcher;
 use crate::sink::Sink;
@@ -69,12 +68,11 @@ impl<A: Allocator + Copy> Searcher<A> {
         ensures completes { NeverFails S.step S.may_call → IsInfallible (M.facts matcher).fails
             → refusal_of self.old.settings (M.facts matcher).meaning ≡ None
             → is_searched_unchanged self.old.settings bytes.now ≡ true → IsOk result }
-        ensures succeeds { NeverFails S.step S.may_call → IsInfallible (M.facts matcher).fails
-            → IsLawful (M.facts matcher) self.old.settings
+        ensures succeeds { IfNoneFails S.step S.may_call (M.facts matcher)
+            (IsLawful (M.facts matcher) self.old.settings
             → refusal_of self.old.settings (M.facts matcher).meaning ≡ None
-            → IfErr result (λ e. (begun : Bool) × (seen : List ℕ) × (error : Error)
-            × IsUndecoded self.old (M.facts matcher).meaning bytes.now begun seen error
-            × S.Error.makers.is_io error e) }
+            → IfErr result (EndsUndecoded S.Error.makers.is_io self.old
+            (M.facts matcher).meaning bytes.now)) }
         ensures may_call { S.may_call sink.new }
     {
         match self.config.refusal(&matcher) {
@@ -109,11 +107,10 @@ impl<A: Allocator + Copy> Searcher<A> {
             sink.old result sink.new }
         ensures completes { NeverFails S.step S.may_call → IsInfallible (M.facts matcher.now).fails
             → is_searched_unchanged self.old.settings input.now ≡ true → IsOk result }
-        ensures succeeds { NeverFails S.step S.may_call → IsInfallible (M.facts matcher.now).fails
-            → IsLawful (M.facts matcher.now) self.old.settings
-            → IfErr result (λ e. (begun : Bool) × (seen : List ℕ) × (error : Error)
-            × IsUndecoded self.old (M.facts matcher.now).meaning input.now begun seen error
-            × S.Error.makers.is_io error e) }
+        ensures succeeds { IfNoneFails S.step S.may_call (M.facts matcher.now)
+            (IsLawful (M.facts matcher.now) self.old.settings
+            → IfErr result (EndsUndecoded S.Error.makers.is_io self.old
+            (M.facts matcher.now).meaning input.now)) }
         ensures may_call { S.may_call sink.new }
     {
         if self.config.is_searched_unchanged(input) {
