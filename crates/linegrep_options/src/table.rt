@@ -179,7 +179,7 @@ macro_rules! options {
         Follow, "follow", Some('L'), Value::Nothing, [NoFollow], "Follow links in folders";
         NoFollow, "no-follow", None, Value::Nothing, [], "";
         Sort, "sort", None, Value::Order, [Sortr, SortFiles, NoSortFiles],
-            "Sort the files of a folder by path, as none does too, or by a time";
+            "Sort the files by path, as none does too, or by a time";
         Sortr, "sortr", None, Value::Order, [Sort, SortFiles, NoSortFiles],
             "The same as --sort, the other way round";
         SortFiles, "sort-files", None, Value::Nothing, [], "";
