@@ -1,10 +1,13 @@
 -- The text of calls for which only bare lines are written: each line as it is, after its number.
-use Rattle.std.specs.Prelude.{ℕ, Bool, false, true, not, ◌&&◌, List, [], ◌∷◌, ◌++◌}
+use Rattle.std.specs.Prelude.{◌≡◌, ℕ, Bool, false, true, not, ◌&&◌, List, [], ◌∷◌, ◌++◌}
+use Rattle.std.specs.Prelude.{Result, Ok, Err, MatchResult}
 use Rattle.std.specs.Option.{is_none}
+use Rattle.std.specs.declared.io.Error.{Error}
+use Rattle.grep_output.specs.Outputs.{OutputCall, Writes}
 use Rattle.grep_searcher.specs.BinaryDetections.{convert_byte_of, quit_byte_of}
 use Rattle.grep_searcher.specs.Lines.{lines}
 use Rattle.grep_searcher.specs.Plans.{Call, Planned, breaks, context, matches}
-use Rattle.grep_printer.specs.Formats.{Scene}
+use Rattle.grep_printer.specs.Formats.{Scene, is_text}
 use Rattle.grep_printer.specs.LineTexts.{is_plain, plain_line, plain_lines}
 use Rattle.grep_printer.specs.declared.config.Config.{Config}
 use Rattle.grep_printer.specs.declared.config.SearchSeparator.{SearchSeparator}
@@ -38,3 +41,13 @@ abbrev pub bare_texts : ℕ → List Planned → List ℕ
 bare_texts terminator [] = []
 bare_texts terminator (planned ∷ later) =
     bare_text terminator planned.call ++ bare_texts terminator later
+
+-- what is kept is written and a text behind it, and what is returned says whether the text has any
+-- bytes
+abbrev pub WritesBehind : {W : Type 0} → (W → OutputCall → W → Type 0) → W → List ℕ → List ℕ
+    → Result Bool Error → W → Type 0
+WritesBehind write_step writer kept text result writer' =
+    MatchResult result
+    (λ has_text. (has_text ≡ is_text text)
+    × Writes write_step writer (kept ++ text) (Ok tt) writer')
+    (λ error. Writes write_step writer (kept ++ text) (Err error) writer')

@@ -4,6 +4,7 @@ use Rattle.std.specs.Prelude.{◌++◌, length, Option}
 use Rattle.std.specs.List.{fold}
 use Rattle.grep_searcher.specs.Plans.{Call, Finish, Planned, Settings, finishes}
 use Rattle.grep_printer.specs.declared.hyperlinks.PrinterPath.{PrinterPath}
+use Rattle.grep_printer.specs.declared.replaced_format.ReplacedFormat.{ReplacedFormat}
 
 -- what the text of a call depends on beside the format: the path, if there is one, and the settings
 -- of the search
@@ -105,3 +106,9 @@ module _ {F : Type 0} (rules : Rules F) (scene : Scene) (HasParts : F → Printe
       × AreAlong (rules.next format scene first) later finish rest)
       ⊎ ((rules.goes_on format scene first ≡ false)
       × IsEnd (rules.next format scene first) planned.if_false rest))
+
+-- a format in which each part is replaced, after a call of the format that it is made of
+abbrev pub replaced_after : {F M : Type 0} → Rules F → ReplacedFormat F M → Scene → PrintedCall
+    → ReplacedFormat F M
+replaced_after rules replaced scene printed =
+    record replaced { format = rules.next replaced.format scene printed }

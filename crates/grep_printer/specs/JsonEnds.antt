@@ -1,6 +1,8 @@
 -- What a printer does when it writes a text that belongs to no call, as the message about all
 -- searches.
-use Rattle.std.specs.Prelude.{◌≡◌, ◌⊎◌, ◌≤◌, ◌||◌, true, ℕ, List, [], ◌++◌, length}
+use Rattle.std.specs.Prelude.{◌≡◌, ◌⊎◌, ◌≤◌, ◌||◌, true, ℕ, List, [], ◌++◌, length, MatchResult}
+use Rattle.std.specs.Prelude.{Option, Result}
+use Rattle.std.specs.Borrow.{Bor}
 use Rattle.std.specs.Global.{Global}
 use Rattle.std.specs.declared.io.Error.{Error}
 use Rattle.grep_output.specs.Outputs.{FailsToWrite, OutputCall}
@@ -9,7 +11,10 @@ use Rattle.grep_searcher.specs.SearchErrors.{IsOutOfMemory}
 use Rattle.grep_searcher.specs.declared.SearchError.{SearchError}
 use Rattle.grep_searcher.specs.declared.SearchError.TheVariants.{Io}
 use Rattle.grep_printer.specs.Formats.{is_text}
+use Rattle.grep_printer.specs.JsonTexts.{end_text, stats_of}
+use Rattle.grep_printer.specs.declared.json_printer.JsonProgress.{JsonProgress}
 use Rattle.grep_printer.specs.declared.printer.Printer.{Printer}
+use Rattle.grep_printer.specs.declared.stats.Stats.{Stats}
 
 module _ {F W : Type 0} (write_step : W → OutputCall → W → Type 0) where
   -- a text comes after what is pending, and nothing else. The writer has no call if both fit in the
@@ -52,3 +57,19 @@ module _ {F W : Type 0} (write_step : W → OutputCall → W → Type 0) where
     pub has_written : new.has_written ≡ old.has_written
     pub cause : FailsAtText writer old text e writer' new
         ⊎ LacksMemoryForText writer old e writer' new
+
+  -- by what is returned: a text comes after what is pending, or isn't written whole
+  abbrev pub HasPutText : {X : Type 0} → W → Printer F → List ℕ → Result X (SearchError Global) → W
+      → Printer F → Type 0
+  HasPutText writer old text result writer' new =
+      MatchResult result (λ _. PutsText writer old text writer' new)
+      (λ e. FailsToPutText writer old text e writer' new)
+
+  -- so it is of the message that a search has ended, and what was searched, found and written in it
+  -- is returned
+  abbrev pub HasPutEnd : W → Printer F → Option (Bor (List ℕ)) → JsonProgress → ℕ
+      → Result Stats (SearchError Global) → W → Printer F → Type 0
+  HasPutEnd writer old path progress elapsed result writer' new =
+      MatchResult result (λ stats. (stats ≡ stats_of progress elapsed)
+      × PutsText writer old (end_text path progress elapsed) writer' new)
+      (λ e. FailsToPutText writer old (end_text path progress elapsed) e writer' new)

@@ -1,12 +1,16 @@
 -- The messages of a printer of JSON and their pieces, as the code has them.
-use Rattle.std.specs.Prelude.{ℕ, List, [], ◌∷◌, ◌++◌, codes, decimal, Option, None, Some}
+use Rattle.std.specs.Prelude.{ℕ, List, [], ◌∷◌, ◌++◌, codes, decimal, length, Option, None}
+use Rattle.std.specs.Prelude.{Some}
 use Rattle.std.specs.Borrow.{Bor}
+use Rattle.grep_matcher.specs.Lines.{byte_of}
+use Rattle.grep_searcher.specs.Lines.{lines}
+use Rattle.grep_searcher.specs.Plans.{Settings}
 use Rattle.json.specs.Json.{Json}
 use Rattle.json.specs.Token.{Token}
 use Rattle.json.specs.Tree.{json_tokens}
 use Rattle.grep_printer.specs.JsonMessages.{begin_json, bytes_json, end_json, optional_json}
 use Rattle.grep_printer.specs.JsonMessages.{path_json, report_json, summary_json}
-use Rattle.grep_printer.specs.JsonTexts.{with_match}
+use Rattle.grep_printer.specs.JsonTexts.{report_line, with_match, with_text}
 use Rattle.grep_printer.specs.ReplacerTexts.{TextAt}
 use Rattle.grep_printer.specs.Reports.{call_of, type_of}
 use Rattle.grep_printer.specs.declared.json_lines.Message.{Message}
@@ -75,3 +79,18 @@ message_of (Summary stats total) = summary_json stats total
 abbrev pub with_matches : ReportKind → JsonProgress → ℕ → ℕ → JsonProgress
 with_matches Match progress line_count match_count = with_match progress line_count match_count
 with_matches (Context kind) progress line_count match_count = progress
+
+-- the text of a report, by the path, what was reported before, the matches in the report, and what
+-- would replace the match at a position
+abbrev pub report_text : Option (Bor (List ℕ)) → JsonProgress → Report → (ℕ → Option (List ℕ))
+    → List (ℕ × ℕ) → List ℕ
+report_text path progress report text_at ranges =
+    report_line path progress (type_of report.kind) report.bytes.now report.number report.offset
+    text_at ranges
+
+-- what was reported so far, after that report under some settings
+abbrev pub after_report : Settings → Option (Bor (List ℕ)) → JsonProgress → Report
+    → (ℕ → Option (List ℕ)) → List (ℕ × ℕ) → JsonProgress
+after_report settings path progress report text_at ranges =
+    with_matches report.kind (with_text progress (report_text path progress report text_at ranges))
+    (length (lines (byte_of settings.line_terminator) report.bytes.now)) (length ranges)

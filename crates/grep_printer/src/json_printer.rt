@@ -1,17 +1,15 @@
 //! The printer of JSON.
-ghost use Rattle.std.specs.Prelude.{◌≡◌, MatchResult, [], false, length};
-ghost use Rattle.grep_searcher.specs.Lines.{byte_of, lines};
+ghost use Rattle.std.specs.Prelude.{◌≡◌, [], false, length};
 ghost use Rattle.grep_printer.specs.Hyperlinks.{shown_path};
-ghost use Rattle.grep_printer.specs.JsonEnds.{FailsToPutText, PutsText};
+ghost use Rattle.grep_printer.specs.JsonEnds.{HasPutEnd, HasPutText};
 ghost use Rattle.grep_printer.specs.JsonMessages.{json_line, summary_json};
-ghost use Rattle.grep_printer.specs.JsonPieces.{message_of, with_matches};
-ghost use Rattle.grep_printer.specs.JsonTexts.{end_text, is_reported, new_json_progress};
-ghost use Rattle.grep_printer.specs.JsonTexts.{opening_line, report_line, stats_of, with_match};
-ghost use Rattle.grep_printer.specs.JsonTexts.{with_size, with_text};
+ghost use Rattle.grep_printer.specs.JsonPieces.{after_report, message_of, report_text};
+ghost use Rattle.grep_printer.specs.JsonTexts.{is_reported, new_json_progress};
+ghost use Rattle.grep_printer.specs.JsonTexts.{opening_line, stats_of, with_match, with_size};
 ghost use Rattle.grep_printer.specs.MatchedParts.{AreInOrder};
 ghost use Rattle.grep_printer.specs.PrinterSteps.{IsSameSink};
 ghost use Rattle.grep_output.specs.PendingTexts.{Adds, pending_bytes};
-ghost use Rattle.grep_printer.specs.Reports.{IsShown, call_of, type_of};
+ghost use Rattle.grep_printer.specs.Reports.{IsShown, call_of};
 ghost use Rattle.grep_printer.specs.StatsSums.{nanos_of};
 
 use crate::format::{Event, Format};
@@ -202,16 +200,11 @@ impl<R: Replacer> JsonFormat<R> {
         requires ordered { AreInOrder 0 (length report.now.bytes.now) ranges.now }
         ensures always_begin_end { self.new.always_begin_end ≡ self.old.always_begin_end }
         ensures replacer { self.new.replacer ≡ self.old.replacer }
-        ensures text { Adds text.old text.new (report_line path.entry self.old.progress
-            (type_of report.now.kind) report.now.bytes.now report.now.number report.now.offset
+        ensures text { Adds text.old text.new (report_text path.entry self.old.progress report.now
             (R.text_at self.old.replacer searcher.now.settings (call_of report.now)) ranges.now) }
         ensures progress { text.new.has_failed ≡ false → self.new.progress
-            ≡ with_matches report.now.kind (with_text self.old.progress (report_line path.entry
-            self.old.progress (type_of report.now.kind) report.now.bytes.now report.now.number
-            report.now.offset (R.text_at self.old.replacer searcher.now.settings
-            (call_of report.now)) ranges.now))
-            (length (lines (byte_of searcher.now.settings.line_terminator) report.now.bytes.now))
-            (length ranges.now) }
+            ≡ after_report searcher.now.settings path.entry self.old.progress report.now
+            (R.text_at self.old.replacer searcher.now.settings (call_of report.now)) ranges.now }
     {
         self.push_begin(text, path);
         let replacements = Replacements {
@@ -295,11 +288,8 @@ impl<R> Printer<JsonFormat<R>> {
         stats: &Stats,
         elapsed: Duration,
     ) -> Result<(), SearchError>
-        ensures { MatchResult result
-            (λ _. PutsText W.step writer.old self.old
-            (json_line (summary_json stats.now (nanos_of elapsed))) writer.new self.new)
-            (λ e. FailsToPutText W.step writer.old self.old
-            (json_line (summary_json stats.now (nanos_of elapsed))) e writer.new self.new) }
+        ensures { HasPutText W.step writer.old self.old
+            (json_line (summary_json stats.now (nanos_of elapsed))) result writer.new self.new }
     {
         self.write_message(writer, Message::Summary(*stats, nanoseconds(elapsed)))
     }
@@ -310,11 +300,8 @@ impl<R> Printer<JsonFormat<R>> {
         writer: &mut W,
         message: Message<'_>,
     ) -> Result<(), SearchError>
-        ensures { MatchResult result
-            (λ _. PutsText W.step writer.old self.old (json_line (message_of message.entry))
-            writer.new self.new)
-            (λ e. FailsToPutText W.step writer.old self.old (json_line (message_of message.entry)) e
-            writer.new self.new) }
+        ensures { HasPutText W.step writer.old self.old (json_line (message_of message.entry))
+            result writer.new self.new }
     {
         self.pending.begin();
         add_message(&mut self.pending, message);
@@ -337,14 +324,9 @@ impl<'s, R, M, W: Output> PrinterSink<'s, JsonFormat<R>, M, W> {
     pub fn write_end(&mut self, elapsed: Duration) -> Result<Stats, SearchError>
         ensures same { IsSameSink self.old self.new }
         ensures format { self.new.format ≡ self.old.format }
-        ensures end { MatchResult result
-            (λ stats. (stats ≡ stats_of self.old.format.progress (nanos_of elapsed))
-            × PutsText W.step self.old.writer.now self.old.printer.now
-            (end_text (shown_path self.old.path) self.old.format.progress (nanos_of elapsed))
-            self.new.writer.now self.new.printer.now)
-            (λ e. FailsToPutText W.step self.old.writer.now self.old.printer.now
-            (end_text (shown_path self.old.path) self.old.format.progress (nanos_of elapsed)) e
-            self.new.writer.now self.new.printer.now) }
+        ensures end { HasPutEnd W.step self.old.writer.now self.old.printer.now
+            (shown_path self.old.path) self.old.format.progress (nanos_of elapsed) result
+            self.new.writer.now self.new.printer.now }
     {
         let progress = &self.format.progress;
         let stats = progress.stats(nanoseconds(elapsed));

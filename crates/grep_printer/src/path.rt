@@ -1,7 +1,7 @@
 //! The printer of paths, which searches nothing.
-ghost use Rattle.std.specs.Prelude.{◌≡◌, MatchResult, [], false};
+ghost use Rattle.std.specs.Prelude.{◌≡◌, [], false};
 ghost use Rattle.grep_output.specs.PendingTexts.{pending_bytes};
-ghost use Rattle.grep_printer.specs.JsonEnds.{FailsToPutText, PutsText};
+ghost use Rattle.grep_printer.specs.JsonEnds.{HasPutText};
 ghost use Rattle.grep_printer.specs.PathTexts.{default_path_format, path_text};
 
 use crate::colors::ColorSpecs;
@@ -83,17 +83,15 @@ impl<'c> PathPrinterBuilder<'c> {
 
 impl<'c> Printer<PathFormat<'c>> {
     /// Writes a path, as a link if it has one, and the terminator after it. An error is the
-    /// writer's, or one of being out of memory; then nothing of the path is written.
+    /// writer's, and then some first bytes of what is pending and of the path may be written; or it
+    /// is one of being out of memory, and then nothing is written.
     pub fn write_path<W: Output>(
         &mut self,
         writer: &mut W,
         path: PrinterPath<'_>,
     ) -> Result<(), SearchError>
-        ensures { MatchResult result
-            (λ _. PutsText W.step writer.old self.old (path_text self.old.format path.entry)
-            writer.new self.new)
-            (λ e. FailsToPutText W.step writer.old self.old (path_text self.old.format path.entry) e
-            writer.new self.new) }
+        ensures { HasPutText W.step writer.old self.old (path_text self.old.format path.entry)
+            result writer.new self.new }
     {
         let PathFormat {
             color_specs,

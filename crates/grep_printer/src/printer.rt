@@ -1,6 +1,6 @@
 //! A printer of any format, and the sink of one search after another.
 ghost use Rattle.std.specs.Prelude.{◌≡◌, ◌⊎◌, ◌+◌, ◌<◌, ◌≤◌, ◌^◌, ◌&&◌, ◌||◌, [], true, false};
-ghost use Rattle.std.specs.Prelude.{IfErr, Err, IfNone, IfSome, MatchResult, Ok, OnErr, OnOk, ◌++◌};
+ghost use Rattle.std.specs.Prelude.{IfErr, IfNone, IfSome, Ok, OnErr, OnOk, ◌++◌};
 ghost use Rattle.grep_output.specs.Outputs.{FailsToWrite, Writes};
 ghost use Rattle.std.specs.Prelude.{MatchBool, if◌then◌else◌, is_ok, length, IsOk, List, ℕ};
 ghost use Rattle.grep_matcher.specs.Lines.{byte_of};
@@ -10,7 +10,7 @@ ghost use Rattle.grep_report.specs.SinkReports.{match_bytes};
 ghost use Rattle.grep_searcher.specs.Plans.{reported_bytes};
 ghost use Rattle.grep_searcher.specs.SearchErrors.{IsOutOfMemory};
 ghost use Rattle.grep_searcher.specs.SinkArguments.{context_call, match_call};
-ghost use Rattle.grep_printer.specs.BareTexts.{bare_text};
+ghost use Rattle.grep_printer.specs.BareTexts.{WritesBehind, bare_text};
 ghost use Rattle.grep_printer.specs.CallParts.{FailsAtParts, has_match};
 ghost use Rattle.grep_printer.specs.Formats.{is_text};
 ghost use Rattle.grep_printer.specs.Hyperlinks.{unlinked};
@@ -274,12 +274,8 @@ impl<F> Printer<F> {
         terminator: u8,
         event: &Event<'_>,
     ) -> io::Result<bool>
-        ensures written { MatchResult result
-            (λ has_text. (has_text ≡ is_text (bare_text terminator (event_call event.now)))
-            × Writes W.step writer.old (pending_bytes self.old.pending
-            ++ bare_text terminator (event_call event.now)) (Ok tt) writer.new)
-            (λ error. Writes W.step writer.old (pending_bytes self.old.pending
-            ++ bare_text terminator (event_call event.now)) (Err error) writer.new) }
+        ensures written { WritesBehind W.step writer.old (pending_bytes self.old.pending)
+            (bare_text terminator (event_call event.now)) result writer.new }
         ensures emptied { pending_bytes self.new.pending ≡ [] }
         ensures format { self.new.format ≡ self.old.format }
         ensures buffer_size { self.new.buffer_size ≡ self.old.buffer_size }

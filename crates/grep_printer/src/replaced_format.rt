@@ -7,6 +7,7 @@ ghost use Rattle.grep_printer.specs.Reports.{FitsEvent, IsShown, IsShownEvent, c
 ghost use Rattle.grep_printer.specs.Reports.{printed_event};
 ghost use Rattle.grep_printer.specs.TextWriters.{PutsInPieces, had_memory};
 ghost use Rattle.grep_searcher.specs.Plans.{reported_bytes};
+ghost use Rattle.grep_printer.specs.Formats.{replaced_after};
 
 use crate::format::{Event, Format};
 use crate::hyperlinks::PrinterPath;
@@ -155,13 +156,11 @@ impl<'t, F: Format, M: CapturesAt + Copy> ReplacedFormat<'t, F, M> {
             (replaced_report self.old.template.now (M.groups_at self.old.matcher)
             searcher.now.settings (M.facts self.old.matcher).meaning
             (call_of report.now) parts.now)) }
-        ensures next { text.new.has_failed ≡ false → self.new ≡ record self.old {
-          format = F.rules.next self.old.format
-              (record { path = path.now; settings = searcher.now.settings })
-              (replaced_report self.old.template.now (M.groups_at self.old.matcher)
-              searcher.now.settings (M.facts self.old.matcher).meaning
-              (call_of report.now) parts.now);
-        } }
+        ensures next { text.new.has_failed ≡ false → self.new ≡ replaced_after F.rules self.old
+            (record { path = path.now; settings = searcher.now.settings })
+            (replaced_report self.old.template.now (M.groups_at self.old.matcher)
+            searcher.now.settings (M.facts self.old.matcher).meaning
+            (call_of report.now) parts.now) }
         ensures goes_on { text.new.has_failed ≡ false → result ≡ F.rules.goes_on self.old.format
             (record { path = path.now; settings = searcher.now.settings })
             (replaced_report self.old.template.now (M.groups_at self.old.matcher)
@@ -199,13 +198,11 @@ impl<'t, F: Format, M: CapturesAt + Copy> ReplacedFormat<'t, F, M> {
             (replaced_report self.old.template.now (M.groups_at self.old.matcher)
             searcher.now.settings (M.facts self.old.matcher).meaning
             (call_of report.now) parts.now)) result out.new }
-        ensures next { had_memory result ≡ true → self.new ≡ record self.old {
-          format = F.rules.next self.old.format
-              (record { path = path.now; settings = searcher.now.settings })
-              (replaced_report self.old.template.now (M.groups_at self.old.matcher)
-              searcher.now.settings (M.facts self.old.matcher).meaning
-              (call_of report.now) parts.now);
-        } }
+        ensures next { had_memory result ≡ true → self.new ≡ replaced_after F.rules self.old
+            (record { path = path.now; settings = searcher.now.settings })
+            (replaced_report self.old.template.now (M.groups_at self.old.matcher)
+            searcher.now.settings (M.facts self.old.matcher).meaning
+            (call_of report.now) parts.now) }
         ensures goes_on { IfOk result (λ goes. goes ≡ F.rules.goes_on self.old.format
             (record { path = path.now; settings = searcher.now.settings })
             (replaced_report self.old.template.now (M.groups_at self.old.matcher)

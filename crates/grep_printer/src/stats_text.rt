@@ -1,11 +1,11 @@
 //! The text of what was searched, found and written.
-ghost use Rattle.std.specs.Prelude.{◌≡◌, IfOk, MatchResult};
+ghost use Rattle.std.specs.Prelude.{◌≡◌, IfOk};
 ghost use Rattle.std.specs.String.{string_bytes};
 ghost use Rattle.grep_output.specs.PendingTexts.{Adds};
 ghost use Rattle.grep_printer.specs.CountedTexts.{count_text, found_text, searched_text};
 ghost use Rattle.grep_printer.specs.CountedTexts.{seconds_of};
 ghost use Rattle.grep_printer.specs.CountedTexts.{stats_text, time_text};
-ghost use Rattle.grep_printer.specs.JsonEnds.{FailsToPutText, PutsText};
+ghost use Rattle.grep_printer.specs.JsonEnds.{HasPutText};
 ghost use Rattle.grep_printer.specs.StatsSums.{nanos_of};
 
 use crate::counted::CountedFormat;
@@ -26,11 +26,8 @@ impl<F> Printer<CountedFormat<F>> {
         stats: &Stats,
         elapsed: Duration,
     ) -> Result<(), SearchError>
-        ensures { MatchResult result
-            (λ _. PutsText W.step writer.old self.old (stats_text stats.now (nanos_of elapsed))
-            writer.new self.new)
-            (λ e. FailsToPutText W.step writer.old self.old
-            (stats_text stats.now (nanos_of elapsed)) e writer.new self.new) }
+        ensures { HasPutText W.step writer.old self.old (stats_text stats.now (nanos_of elapsed))
+            result writer.new self.new }
     {
         self.pending.begin();
         push_stats(&mut self.pending, stats, nanoseconds(elapsed));
