@@ -3,7 +3,7 @@
 use Rattle.std.specs.Prelude.{ℕ, Bool, true, List, Option, Result, Ok}
 use Rattle.std.specs.declared.io.Error.{Error}
 use Rattle.grep_decode.specs.Source.{ReadResult}
-use Rattle.grep_definitions.specs.Plans.{SearcherState, Settings, Steps, begins}
+use Rattle.grep_definitions.specs.Plans.{Settings, Steps, begins}
 use Rattle.grep_definitions.specs.Searches.{EndsUnread, IsRead, Look}
 use Rattle.grep_matcher.specs.Meanings.{MatcherFacts, Meaning}
 use Rattle.grep_report.specs.ErrorMakers.{ErrorMakers}
