@@ -74,15 +74,20 @@ module _ (folders : FolderFacts) where
   abbrev pub IsStart : List ℕ → ℕ → Type 0
   IsStart path start = (here : List ℕ) × IsPlace (codes ".") here × (start ≡ start_in here path)
 
+  -- the repository of a folder was added, by its depth, if git's files are read and the folder is
+  -- the top of one
+  abbrev pub IsTopAdded : Sources → List ℕ → ℕ → List ℕ → List ℕ → Type 0
+  IsTopAdded sources folder depth repositories repositories' = MatchBool (has_git sources)
+      ((is_top : Bool) × IsTopAt folders folder any_marks is_top
+      × (repositories' ≡ (if is_top then repositories ++ depth ∷ [] else repositories)))
+      (repositories' ≡ repositories)
+
   -- the ignore files were read of one of the folders above, whose path comes before a slash. This
   -- folder may also be the top of a repository
   pub record IsParentRead (sources : Sources) (above : List ℕ) (layers : List Layer)
       (repositories : List ℕ) (layers' : List Layer) (repositories' : List ℕ) : Type 0 where
-    pub top : MatchBool (has_git sources)
-        ((is_top : Bool) × IsTopAt folders (rooted above) any_marks is_top
-        × (repositories' ≡ (if is_top
-        then repositories ++ depth_in (above ++ 47 ∷ []) ∷ [] else repositories)))
-        (repositories' ≡ repositories)
+    pub top : IsTopAdded sources (rooted above) (depth_in (above ++ 47 ∷ [])) repositories
+        repositories'
     pub files : MatchBool sources.parents (AreFilesRead folders.reads sources any_marks
         (depth_in (above ++ 47 ∷ [])) (length above + 1) (rooted above) layers layers')
         (layers' ≡ layers)

@@ -1,11 +1,10 @@
 //! The ignore files of the folders above a searched folder.
-ghost use Rattle.std.specs.Prelude.{◌≡◌, ◌++◌, ◌∷◌, [], Bool, IfOk, OnOk, if◌then◌else◌, length};
-ghost use Rattle.std.specs.Prelude.{MatchBool};
+ghost use Rattle.std.specs.Prelude.{◌≡◌, ◌++◌, ◌∷◌, [], IfOk, OnOk, length};
 ghost use Rattle.linegrep_files.specs.IgnoreFiles.{HasSource, IsMarkThere, IsThere, IsTopAt};
 ghost use Rattle.linegrep_files.specs.IgnoreFiles.{ReadsTheSame, depth_in};
 ghost use Rattle.linegrep_files.specs.ParentFiles.{AreParentsRead, IsParentRead, IsStart};
-ghost use Rattle.linegrep_files.specs.ParentFiles.{any_marks, has_git, is_within, parents_of};
-ghost use Rattle.linegrep_files.specs.ParentFiles.{rooted, start_in};
+ghost use Rattle.linegrep_files.specs.ParentFiles.{IsTopAdded, is_within, parents_of, rooted};
+ghost use Rattle.linegrep_files.specs.ParentFiles.{start_in};
 
 use super::{Ignores, Marks, without_slashes};
 use crate::class::{begins_with, is_empty};
@@ -78,11 +77,9 @@ impl Ignores<'_> {
         ensures place { HasSource self.old self.new }
         ensures layers { self.new.layers ≡ self.old.layers }
         ensures path { self.new.path ≡ self.old.path }
-        ensures top { OnOk result (MatchBool (has_git self.old.sources) ((is_top : Bool)
-            × IsTopAt (S.facts system.now) folder.now any_marks is_top
-            × (self.new.repositories.items ≡ (if is_top then self.old.repositories.items
-            ++ depth_in self.old.path.items ∷ [] else self.old.repositories.items)))
-            (self.new.repositories.items ≡ self.old.repositories.items)) }
+        ensures top { OnOk result (IsTopAdded (S.facts system.now) self.old.sources folder.now
+            (depth_in self.old.path.items) self.old.repositories.items
+            self.new.repositories.items) }
     {
         if !self.sources.has_git() {
             return Ok(());
