@@ -2,6 +2,7 @@
 -- calls.
 use Rattle.std.specs.Prelude.{◌≡◌, ℕ, Bool, true, false, List, [], Option, Some, None, String}
 use Rattle.std.specs.Prelude.{string_bytes, if◌then◌else◌, Result, Ok, Err, IfOk, IfErr}
+use Rattle.std.specs.Prelude.{MatchResult, Vec}
 use Rattle.std.specs.Global.{Global}
 use Rattle.std.specs.Io.KnownBytes.{Appends}
 use Rattle.std.specs.IoError.{error_kind}
@@ -188,6 +189,16 @@ module _ {F R W : Type 0} (opens : List ℕ → Result F Error → Type 0)
       writer result writer'
       × (input' ≡ input)
 
+-- what the program does if its arguments can't be read: it says that it failed, and neither the
+-- input nor the writer had a call
+pub record IsStopped {R W E : Type 0} (message_step : E → OutputCall → E → Type 0) (input : R)
+    (writer : W) (messages : E) (status : ℕ) (input' : R) (writer' : W) (messages' : E) : Type 0
+  where
+    pub is_error : status ≡ 2
+    pub same_input : input' ≡ input
+    pub same_writer : writer' ≡ writer
+    pub message : WritesMessage message_step failed_line messages messages'
+
 module _ {F R W E : Type 0} (opens : List ℕ → Result F Error → Type 0)
     (file_remaining : Reader F → Option (List ℕ))
     (file_step : Reader F → ReadResult → Reader F → Type 0) (remaining : R → Option (List ℕ))
@@ -213,12 +224,11 @@ module _ {F R W E : Type 0} (opens : List ℕ → Result F Error → Type 0)
         → WritesFailure message_step result messages messages'
         → IsProgramEnd arguments input writer messages (status_of result) input' writer' messages'
 
--- what the program does if its arguments can't be read: it says that it failed, and neither the
--- input nor the writer had a call
-pub record IsStopped {R W E : Type 0} (message_step : E → OutputCall → E → Type 0) (input : R)
-    (writer : W) (messages : E) (status : ℕ) (input' : R) (writer' : W) (messages' : E) : Type 0
-  where
-    pub is_error : status ≡ 2
-    pub same_input : input' ≡ input
-    pub same_writer : writer' ≡ writer
-    pub message : WritesMessage message_step failed_line messages messages'
+  -- what the program does, whether its arguments can be read or not
+  abbrev pub IsRunByArguments : Result (Vec (String Global) Global) Error → R → W → E → ℕ → R → W
+      → E → Type 0
+  IsRunByArguments arguments input writer messages status input' writer' messages' =
+      MatchResult arguments
+      (λ arguments. IsProgramEnd arguments.items input writer messages status input' writer'
+      messages')
+      (λ _. IsStopped message_step input writer messages status input' writer' messages')

@@ -1,8 +1,8 @@
 //! The program, by its arguments.
-ghost use Rattle.std.specs.Prelude.{◌≡◌, MatchResult};
+ghost use Rattle.std.specs.Prelude.{◌≡◌};
 ghost use Rattle.std.specs.Process.{exit_status};
 ghost use Rattle.lgrep_cli.specs.Messages.{WritesMessage};
-ghost use Rattle.lgrep_cli.specs.ProgramRuns.{IsProgramEnd, IsStopped};
+ghost use Rattle.lgrep_cli.specs.ProgramRuns.{IsRunByArguments};
 
 use crate::exit::status;
 use crate::messages::{FAILED, write_failure, write_message};
@@ -29,13 +29,10 @@ pub fn run_arguments<T: Open, R: Source, W: Output, E: Output>(
     writer: &mut W,
     messages: &mut E,
 ) -> ExitCode
-    ensures { MatchResult arguments.now
-        (λ arguments. IsProgramEnd (T.opens rt.now)
+    ensures { IsRunByArguments (T.opens rt.now)
         ⟦<Reading<T::File> as Source>⟧.remaining ⟦<Reading<T::File> as Source>⟧.step
-        R.remaining R.step W.step W.contents E.step arguments.items input.old writer.old
-        messages.old (exit_status result) input.new writer.new messages.new)
-        (λ _. IsStopped E.step input.old writer.old messages.old (exit_status result)
-        input.new writer.new messages.new) }
+        R.remaining R.step W.step W.contents E.step arguments.now input.old writer.old
+        messages.old (exit_status result) input.new writer.new messages.new }
 {
     let Ok(arguments) = arguments else {
         return stop(messages, FAILED);
