@@ -76,6 +76,7 @@ pub(crate) fn find_nearest(finder: &Finder<'_>, haystack: &[u8], nearest: Neares
 {
     match nearest {
         Nearest::Resembles(at) => find_marked(finder, haystack, at),
+        Nearest::NotBefore(from) if haystack.len() - from < finder.needle().len() => None,
         Nearest::NotBefore(from) => find_few(finder, haystack, from),
     }
 }
