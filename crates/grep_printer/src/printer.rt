@@ -444,35 +444,14 @@ impl<'s, F: Format, M: FindAt, W: Output> PrinterSink<'s, F, M, W> {
         ensures kept { OnOk result (KeepsNoMore self.new) }
     {
         if self.asks(searcher, event) {
-            return self.print_with_parts(searcher, event);
-        }
-        self.clear_parts(searcher, event);
-        if let Some(goes_on) = self.keep_call(searcher, event) {
-            return Ok(goes_on);
-        }
-        self.print_call(searcher, event)
-    }
-
-    // Prints a call whose parts are asked for.
-    #[inline(always)]
-    fn print_with_parts<A: Allocator + Copy>(
-        &mut self,
-        searcher: &Searcher<A>,
-        event: &Event<'_>,
-    ) -> Result<bool, SearchError>
-        requires fits { FitsEvent event.now }
-        requires shown { IsShownEvent event.now }
-        requires asked { (has_match searcher.now.settings (event_call event.now)
-            && F.rules.asks self.old.format (event_call event.now)) ≡ true }
-        ensures step { PrintsCall F.rules M.Error.output M.facts M.first_at W.step self.old
-            searcher.now.settings (event_call event.now) result self.new }
-        ensures kept { OnOk result (KeepsNoMore self.new) }
-    {
-        if let Err(error) = self.find_parts(searcher, event) {
-            return Err(search_error(*self.printer.parts.allocator(), error));
-        }
-        if self.printer.parts.len() > MANY_PARTS {
-            return self.put_call(searcher, event);
+            if let Err(error) = self.find_parts(searcher, event) {
+                return Err(search_error(*self.printer.parts.allocator(), error));
+            }
+            if self.printer.parts.len() > MANY_PARTS {
+                return self.put_call(searcher, event);
+            }
+        } else {
+            self.clear_parts(searcher, event);
         }
         if let Some(goes_on) = self.keep_call(searcher, event) {
             return Ok(goes_on);
