@@ -4,6 +4,7 @@ pub mod Differences
 pub mod FirstAround
 pub mod FirstBytes
 pub mod JsonLines
+pub mod LineFlags
 pub mod LongestLines
 pub mod MarkedBlocks
 pub mod MarkedCalls

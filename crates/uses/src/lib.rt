@@ -14,8 +14,9 @@
 //! marks; `first_in_each` finds the first match in each line that a search reports, and
 //! `count_in_paths` adds up the counts of files. `longest_line` keeps the longest line of a slice,
 //! `take_lines` the first ones with how many bytes they take, and `count_gaps` counts where lines
-//! were left out between two reports. `count_first_bytes` counts lines by their first byte, and
-//! `first_difference` compares the lines of two slices. `CALLING.md` says which laws they use.
+//! were left out between two reports. `count_first_bytes` counts lines by their first byte,
+//! `flag_lines` says of each line whether it matches, and `first_difference` compares the lines of
+//! two slices. `CALLING.md` says which laws they use.
 #![tactic(auto)]
 
 mod around;
@@ -28,6 +29,7 @@ mod different;
 mod expression;
 mod filter;
 mod first;
+mod flags;
 mod gaps;
 mod json;
 mod last;
@@ -53,6 +55,7 @@ pub use different::first_difference;
 pub use expression::{count_pattern_lines, first_pattern_line};
 pub use filter::lines_that_match;
 pub use first::{first_line_that_matches, first_matches};
+pub use flags::flag_lines;
 pub use gaps::count_gaps;
 pub use json::json_lines;
 pub use last::last_matches;

@@ -1,10 +1,10 @@
 //! The callers of `uses` that measure what matches: the longest line, the first lines with how many
-//! bytes they take, the gaps between what is reported, how many lines begin with each byte, and
-//! where two inputs first differ.
+//! bytes they take, the gaps between what is reported, how many lines begin with each byte, which
+//! lines match, and where two inputs first differ.
 use grep_searcher::sinks::KeptMatch;
 use grep_searcher::{LiteralMatcher, SearchError, Searcher, SearcherBuilder};
 use std::alloc::Global;
-use uses::{count_first_bytes, count_gaps, first_difference, longest_line, take_lines};
+use uses::{count_first_bytes, count_gaps, first_difference, flag_lines, longest_line, take_lines};
 
 // Line 1, line 3, line 4 and line 8 have an `a`. Lines 3 and 4 are the longest of them.
 const INPUT: &[u8] = b"a\nlong\nabc\ncab\ny\ny\ny\na";
@@ -68,6 +68,18 @@ fn counts_bytes(alloc: Global) -> Result<bool, SearchError> {
 #[test]
 fn first_bytes_are_counted(rt: HostRuntime) {
     assert!(rt; matches!(counts_bytes(rt.alloc()), Ok(true)));
+}
+
+// A flag for each of the eight lines.
+fn flags_lines(alloc: Global) -> Result<bool, SearchError> {
+    let mut searcher = SearcherBuilder::new().passthru(true).build(alloc)?;
+    let flags = flag_lines(alloc, &mut searcher, letter(), INPUT)?;
+    Ok(flags.as_slice() == [true, false, true, true, false, false, false, true].as_slice())
+}
+
+#[test]
+fn lines_are_flagged(rt: HostRuntime) {
+    assert!(rt; matches!(flags_lines(rt.alloc()), Ok(true)));
 }
 
 // Where the lines that match of the input and of another first differ.
