@@ -8,16 +8,15 @@ use Rattle.grep_searcher.specs.Lines.{strip}
 use Rattle.grep_searcher.specs.Meanings.{Meaning}
 use Rattle.grep_searcher.specs.Plans.{is_across, reported_bytes, Call, Settings}
 use Rattle.grep_printer.proofs.ReportLemmas.{reported_bytes-report}
-use Rattle.grep_printer.proofs.SuccessiveLemmas.{parts-below}
+use Rattle.grep_replace.proofs.SuccessiveLemmas.{parts-below}
 use Rattle.grep_printer.specs.CallParts.{HasParts, asked_bytes, asked_start}
 use Rattle.grep_printer.specs.CallParts.{parts_of_call, shown_bytes, shown_start}
 use Rattle.grep_report.specs.SinkReports.{Surroundings, surroundings}
 use Rattle.grep_printer.specs.JsonLaws.{IsWordRange}
-use Rattle.grep_printer.specs.MatchedParts.{first_from, parts_in}
+use Rattle.grep_replace.specs.MatchedParts.{first_from, parts_in}
 use Rattle.grep_printer.specs.Reports.{IsShownAs, call_of, event_call, reporting_call}
 use Rattle.grep_printer.specs.SearchMessages.{PartsHaveWords}
 use Rattle.grep_printer.specs.declared.format.Event.{Event}
-use Rattle.grep_printer.specs.declared.format.Event.TheVariants.{Begin, Break, BinaryData, Finish}
 use Rattle.grep_printer.specs.declared.format.Event.TheVariants.{Report as report_event}
 use Rattle.grep_printer.specs.declared.report.Report.{Report}
 use Rattle.grep_printer.specs.declared.report.ReportKind.{ReportKind}

@@ -6,10 +6,10 @@ use Rattle.std.proofs.lemmas.Bool.Decides.{nat_tests}
 use Rattle.std.proofs.lemmas.List.{append-nil, length-append}
 use Rattle.std.specs.List.{list_any}
 use Rattle.std.specs.Prelude.{◌-◌, ◌&&◌, ◌||◌, drop, max, min, nat_le, nat_lt, take, if◌then◌else◌}
-use Rattle.grep_printer.proofs.FoundPartLemmas.{ordered-from}
+use Rattle.grep_replace.proofs.FoundPartLemmas.{ordered-from}
 use Rattle.grep_printer.specs.ColorRuns.{after_run, run_text}
 use Rattle.grep_printer.specs.ColoredTexts.{is_matched, painted, painted_from, reaches, reset, switch_text}
-use Rattle.grep_printer.specs.MatchedParts.{AreInOrder, parts_after}
+use Rattle.grep_replace.specs.MatchedParts.{AreInOrder, parts_after}
 
 switch-same : (color back : List ℕ) (b : Bool) → switch_text color back b b ≡ []
 switch-same color back true = refl

@@ -6,11 +6,11 @@ pub mod ColorLemmas
 pub mod CountedLemmas
 pub mod JsonBytesLemmas
 pub mod JsonLineLemmas
-pub mod FoundPartLemmas
 pub mod HyperlinkLemmas
 pub mod LineFeedLemmas
 pub mod LinePlaceLemmas
 pub mod LinkedFieldLemmas
+pub mod PartErrorLemmas
 pub mod PartLineLemmas
 pub mod PartTextLemmas
 pub mod PassedLineLemmas
@@ -27,7 +27,6 @@ pub mod ReportLemmas
 pub mod ReportToldLemmas
 pub mod SearchMessageLemmas
 pub mod SomeTextLemmas
-pub mod SuccessiveLemmas
 pub mod TakenCallLemmas
 pub mod TakenLineLemmas
 pub mod TextLemmas

@@ -12,8 +12,8 @@ use Rattle.std.specs.Prelude.{◌&&◌, ◌==◌, All, nat_le, nat_lt, not}
 use Rattle.grep_matcher.specs.FindResults.{IsFrom}
 use Rattle.grep_printer.proofs.PlainLineLemmas.{lines-plain, part-plain}
 use Rattle.grep_printer.specs.LineTexts.{end_byte, is_plain, plain_line, plain_lines, plain_part}
-use Rattle.grep_printer.specs.MatchedParts.{below, first_from, found_from, is_passed, parts_from}
-use Rattle.grep_printer.specs.MatchedParts.{parts_in, position_after, with_part}
+use Rattle.grep_replace.specs.MatchedParts.{below, first_from, found_from, is_passed, parts_from}
+use Rattle.grep_replace.specs.MatchedParts.{parts_in, position_after, with_part}
 use Rattle.grep_printer.specs.PartTexts.{clipped_text, line_span, match_text}
 use Rattle.grep_printer.specs.PartTexts.{writes_parts}
 use Rattle.grep_printer.specs.declared.fields.Layout.{Layout}

@@ -10,8 +10,8 @@ use Rattle.grep_matcher.proofs.LineLemmas.{lines-joined}
 use Rattle.grep_matcher.specs.Lines.{byte_of, bytes_of}
 use Rattle.grep_matcher.specs.declared.line_terminator.LineTerminator.{LineTerminator}
 use Rattle.grep_searcher.specs.Lines.{lines, strip}
-use Rattle.grep_printer.proofs.FoundPartLemmas.{ordered-from}
-use Rattle.grep_printer.specs.MatchedParts.{AreInOrder, parts_after}
+use Rattle.grep_replace.proofs.FoundPartLemmas.{ordered-from}
+use Rattle.grep_replace.specs.MatchedParts.{AreInOrder, parts_after}
 use Rattle.grep_printer.specs.PartTexts.{across_text, clipped_text, is_in_span, line_span}
 use Rattle.grep_printer.specs.LineTexts.{next_number}
 use Rattle.grep_printer.specs.declared.fields.Layout.{Layout}

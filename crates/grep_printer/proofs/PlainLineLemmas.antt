@@ -12,7 +12,7 @@ use Rattle.std.specs.Prelude.{cond, max, min, nat_lt, not, Option, None, Some, s
 use Rattle.grep_matcher.proofs.LineLemmas.{lines-end, lines-inner}
 use Rattle.grep_matcher.specs.Lines.{lines, onto_first}
 use Rattle.grep_searcher.specs.Lines.{strip}
-use Rattle.grep_printer.specs.MatchedParts.{AreInOrder, ends_after}
+use Rattle.grep_replace.specs.MatchedParts.{AreInOrder, ends_after}
 use Rattle.grep_printer.specs.ColoredTexts.{line_color, matched_color, path_color}
 use Rattle.grep_printer.specs.Hyperlinks.{prefix_link, shown_path}
 use Rattle.grep_printer.specs.LineTexts.{end_byte, is_plain, line_text, lines_text, mark_after, mark_byte, missing_end}

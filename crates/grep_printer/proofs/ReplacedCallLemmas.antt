@@ -1,17 +1,17 @@
 -- Calls in which parts are replaced.
-use Rattle.std.proofs.Common.{◌≡◌, ℕ, List, [], ◌∷◌, false, refl, ap, sym, ◌∙◌}
+use Rattle.std.proofs.Common.{◌≡◌, ℕ, List, [], ◌∷◌, refl, ap, sym, ◌∙◌}
 use Rattle.grep_replace.specs.declared.template.Template.{Template}
 use Rattle.grep_searcher.specs.Meanings.{Meaning}
-use Rattle.grep_searcher.specs.Plans.{Call, Settings, begins, matches, context, breaks, binary_data, finishes}
+use Rattle.grep_searcher.specs.Plans.{Call, Settings}
 use Rattle.grep_searcher.specs.Plans.{reported_bytes}
-use Rattle.grep_searcher.specs.SearchLaws.{is_report}
-use Rattle.std.proofs.Common.{Option, true≢false}
+use Rattle.std.proofs.Common.{Option}
 use Rattle.grep_printer.proofs.ReportLemmas.{reported_bytes-report}
 use Rattle.grep_printer.specs.CallParts.{asked_bytes, asked_start}
 use Rattle.grep_report.specs.SinkReports.{Surroundings}
 use Rattle.grep_printer.specs.Formats.{PrintedCall}
-use Rattle.grep_printer.specs.ReplacedTexts.{end_of_line, ended, replaced_by, replaced_bytes, replaced_call}
-use Rattle.grep_printer.specs.ReplacedTexts.{replaced_parts, replaced_report, replacement_at, text_in_place, with_bytes}
+use Rattle.grep_replace.specs.ReplacedBytes.{replaced_bytes, replaced_parts}
+use Rattle.grep_printer.specs.ReplacedTexts.{end_of_line, ended, replaced_by, replaced_call, replaced_report}
+use Rattle.grep_printer.specs.ReplacedTexts.{replacement_at, text_in_place, with_bytes}
 use Rattle.grep_printer.specs.Reports.{call_of, event_call, reporting_call, surroundings_of}
 use Rattle.grep_printer.specs.declared.format.Event.{Event}
 use Rattle.grep_printer.specs.declared.format.Event.TheVariants.{Report as report_event}

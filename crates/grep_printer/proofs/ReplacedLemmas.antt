@@ -1,11 +1,12 @@
 -- Bytes in which parts are replaced, one part after another.
 use Rattle.std.proofs.Common.{◌≡◌, ℕ, ◌+◌, ◌-◌, ◌≤◌, List, [], ◌∷◌, ◌++◌}
-use Rattle.std.proofs.Common.{length, drop, slice_range, take, arith, refl, sym}
+use Rattle.std.proofs.Common.{length, drop, slice_range, take, arith, sym}
 use Rattle.std.proofs.Common.{ap, ◌∙◌, append_assoc, append-nil, length-append}
 use Rattle.std.proofs.Common.{length-drop, length-take, Option, None, Some}
 use Rattle.std.proofs.Math.Seq.{take-length}
-use Rattle.grep_printer.specs.MatchedParts.{AreInOrder}
-use Rattle.grep_printer.specs.ReplacedTexts.{ended, replaced_bytes, replaced_parts}
+use Rattle.grep_replace.specs.MatchedParts.{AreInOrder}
+use Rattle.grep_replace.specs.ReplacedBytes.{replaced_bytes, replaced_parts}
+use Rattle.grep_printer.specs.ReplacedTexts.{ended}
 
 range-length : (bytes : List ℕ) (from to : ℕ) → from ≤ to → to ≤ length bytes
     → length (slice_range bytes from to) ≡ to - from

@@ -17,7 +17,7 @@ use Rattle.grep_printer.specs.LineTexts.{begins_after, end_byte, fields, highlig
 use Rattle.grep_printer.specs.LineTexts.{indentation, is_long, is_touching}
 use Rattle.grep_printer.specs.LineTexts.{line_text, lines_text, long_text, missing_end, more_notice, notice}
 use Rattle.grep_printer.specs.LineTexts.{painted_line, place_after, preview_text, previewed, shown_line, trimmed}
-use Rattle.grep_printer.specs.MatchedParts.{AreInOrder, parts_after}
+use Rattle.grep_replace.specs.MatchedParts.{AreInOrder, parts_after}
 use Rattle.grep_printer.specs.declared.fields.Layout.{Layout}
 use Rattle.grep_printer.specs.declared.fields.LineKind.{LineKind}
 use Rattle.grep_printer.specs.declared.fields.LineKind.TheVariants.{Context, Match}

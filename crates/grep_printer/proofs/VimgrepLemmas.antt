@@ -4,13 +4,13 @@ use Rattle.std.specs.Prelude.{◌<◌, ◌==◌, count_by, false, if◌then◌el
 use Rattle.grep_lines.specs.Blocks.{lines_before}
 use Rattle.grep_output.specs.Outputs.{OutputCall}
 use Rattle.grep_output.specs.PendingTexts.{pending_bytes}
-use Rattle.grep_printer.proofs.FoundPartLemmas.{ordered-from}
+use Rattle.grep_replace.proofs.FoundPartLemmas.{ordered-from}
 use Rattle.grep_printer.proofs.PartTextLemmas.{IsWriting, writing-more}
 use Rattle.grep_printer.proofs.PassedLineLemmas.{lines-passed}
 use Rattle.grep_printer.proofs.TextWriterLemmas.{HasPut}
 use Rattle.grep_printer.specs.Formats.{Scene}
 use Rattle.grep_printer.specs.LineTexts.{end_byte, number_after}
-use Rattle.grep_printer.specs.MatchedParts.{AreInOrder}
+use Rattle.grep_replace.specs.MatchedParts.{AreInOrder}
 use Rattle.grep_report.specs.SinkReports.{Surroundings}
 use Rattle.grep_printer.specs.Reports.{line_kind, reporting_call}
 use Rattle.grep_printer.specs.StandardTexts.{is_hidden, layout_of, text_before}

@@ -9,7 +9,8 @@ use Rattle.grep_searcher.specs.Meanings.{Meaning}
 use Rattle.grep_searcher.specs.Plans.{is_across, reported_bytes, Call, Settings, matches, context}
 use Rattle.grep_searcher.specs.declared.SearchError.{SearchError}
 use Rattle.grep_printer.specs.Formats.{PrintedCall}
-use Rattle.grep_printer.specs.MatchedParts.{IsMatcherError, first_from, parts_in}
+use Rattle.grep_replace.specs.MatchedParts.{first_from, parts_in}
+use Rattle.grep_printer.specs.PartErrors.{IsMatcherError}
 
 -- whether the lines of a call's report match: those of a match do, and in an inverted search those
 -- of any other report

@@ -15,7 +15,6 @@ pub mod JsonTexts
 pub mod LinePlaces
 pub mod LineTexts
 pub mod LinkedFields
-pub mod MatchedParts
 pub mod PartErrors
 pub mod PartTexts
 pub mod PathTexts

@@ -1,7 +1,7 @@
 -- Reports in which each part that matches is replaced.
-use Rattle.std.specs.Prelude.{false, ℕ, ◌+◌, ◌-◌, true, List, [], ◌∷◌, ◌++◌, drop, length}
-use Rattle.std.specs.Prelude.{slice_range, if◌then◌else◌, Option, None, Some}
-use Rattle.grep_replace.specs.Templates.{group_text, template_text}
+use Rattle.std.specs.Prelude.{false, ℕ, ◌+◌, true, List, [], ◌∷◌, if◌then◌else◌, Option, None}
+use Rattle.std.specs.Prelude.{Some}
+use Rattle.grep_replace.specs.ReplacedBytes.{replaced_bytes, replaced_parts, text_of_match}
 use Rattle.grep_replace.specs.declared.template.Template.{Template}
 use Rattle.grep_searcher.specs.Lines.{byte_of}
 use Rattle.grep_searcher.specs.Meanings.{Meaning}
@@ -16,24 +16,8 @@ use Rattle.grep_printer.specs.declared.replaced_format.ReplacedFormat.{ReplacedF
 -- groups of the match there, in the bytes about which the matcher was asked
 abbrev pub replacement_at : {M : Type 0} → (M → List ℕ → ℕ → List (Option (ℕ × ℕ)))
     → Replacement M → ℕ → List ℕ
-replacement_at groups_at r position = template_text r.template.now
-    (group_text r.asked.now (groups_at r.matcher r.asked.now (r.start + position)))
-
--- By what is written in place of the part at a position.
-module _ (text_at : ℕ → List ℕ) where
-  -- the bytes from a position on, in which each part is replaced
-  abbrev pub replaced_bytes : List ℕ → ℕ → List (ℕ × ℕ) → List ℕ
-  replaced_bytes bytes position [] = drop position bytes
-  replaced_bytes bytes position (part ∷ later) =
-      slice_range bytes position part.0 ++ (text_at part.0 ++ replaced_bytes bytes part.1 later)
-
-  -- where the texts are that replace the parts. The bytes from a position on come after some number
-  -- of bytes
-  abbrev pub replaced_parts : ℕ → ℕ → List (ℕ × ℕ) → List (ℕ × ℕ)
-  replaced_parts count position [] = []
-  replaced_parts count position (part ∷ later) =
-      (count + (part.0 - position), count + (part.0 - position) + length (text_at part.0))
-      ∷ replaced_parts (count + (part.0 - position) + length (text_at part.0)) part.1 later
+replacement_at groups_at r position =
+    text_of_match r.template.now (groups_at r.matcher) r.asked.now (r.start + position)
 
 -- what ends a line that replacing has emptied, if anything does: by line the last byte of the
 -- terminator, across lines nothing
@@ -61,9 +45,8 @@ module _ (template : Template) (groups_at : List ℕ → ℕ → List (Option (�
   -- groups of the match there, in the bytes about which the matcher was asked
   abbrev pub text_in_place : Call → ℕ → List ℕ
   text_in_place call position =
-      template_text template (group_text (asked_bytes settings meaning call)
-      (groups_at (asked_bytes settings meaning call)
-      (asked_start settings meaning call + position)))
+      text_of_match template groups_at (asked_bytes settings meaning call)
+      (asked_start settings meaning call + position)
 
   -- a report in which each part is replaced
   abbrev pub replaced_report : Call → List (ℕ × ℕ) → PrintedCall

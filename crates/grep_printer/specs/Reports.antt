@@ -9,7 +9,7 @@ use Rattle.grep_searcher.specs.Plans.{binary_data, finishes}
 use Rattle.grep_report.specs.SinkReports.{Surroundings, surroundings}
 use Rattle.grep_printer.specs.Formats.{PrintedCall}
 use Rattle.grep_printer.specs.LineTexts.{end_byte, line_text, lines_text}
-use Rattle.grep_printer.specs.MatchedParts.{AreInOrder}
+use Rattle.grep_replace.specs.MatchedParts.{AreInOrder}
 use Rattle.grep_printer.specs.PartTexts.{column_of}
 use Rattle.grep_printer.specs.declared.format.Event.{Event}
 use Rattle.grep_printer.specs.declared.format.Event.TheVariants.{Begin, Break, BinaryData, Finish}

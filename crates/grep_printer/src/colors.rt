@@ -5,7 +5,7 @@ ghost use Rattle.grep_printer.specs.ColoredTexts.{color_of, colored, column_colo
 ghost use Rattle.grep_printer.specs.ColoredTexts.{highlight_color, is_matched, painted_in};
 ghost use Rattle.grep_printer.specs.ColoredTexts.{line_color, matched_color, painted_from};
 ghost use Rattle.grep_printer.specs.ColoredTexts.{path_color, switch_text};
-ghost use Rattle.grep_printer.specs.MatchedParts.{AreInOrder};
+ghost use Rattle.grep_replace.specs.MatchedParts.{AreInOrder};
 ghost use Rattle.grep_output.specs.PendingTexts.{Adds};
 
 use grep_output::Pending;

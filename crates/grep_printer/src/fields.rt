@@ -20,7 +20,7 @@ ghost use Rattle.grep_printer.specs.Hyperlinks.{shown_path};
 ghost use Rattle.grep_printer.specs.LineTexts.{shown_offset, text_field};
 ghost use Rattle.grep_printer.specs.LineTexts.{painted_line, path_field, place_after};
 ghost use Rattle.grep_printer.specs.LineTexts.{separator_text};
-ghost use Rattle.grep_printer.specs.MatchedParts.{AreInOrder};
+ghost use Rattle.grep_replace.specs.MatchedParts.{AreInOrder};
 ghost use Rattle.grep_output.specs.PendingTexts.{Adds};
 
 use crate::colors::{push_colored, push_in_colors};

@@ -8,7 +8,7 @@ ghost use Rattle.grep_searcher.specs.Lines.{byte_of};
 ghost use Rattle.grep_searcher.specs.MatchedLines.{calls_of_match};
 ghost use Rattle.grep_printer.specs.BareTexts.{bare_text};
 ghost use Rattle.grep_printer.specs.Formats.{AreTexts, PrintedCall, Rules, Scene};
-ghost use Rattle.grep_printer.specs.MatchedParts.{AreInOrder};
+ghost use Rattle.grep_replace.specs.MatchedParts.{AreInOrder};
 ghost use Rattle.grep_output.specs.PendingTexts.{Adds, pending_bytes};
 ghost use Rattle.grep_printer.specs.Reports.{FitsEvent, IsShownEvent, event_call, event_has_match};
 ghost use Rattle.grep_printer.specs.Reports.{printed_event};

@@ -6,11 +6,11 @@ ghost use Rattle.grep_printer.specs.JsonMessages.{json_line, summary_json};
 ghost use Rattle.grep_printer.specs.JsonPieces.{after_report, message_of, report_text};
 ghost use Rattle.grep_printer.specs.JsonTexts.{is_reported, new_json_progress};
 ghost use Rattle.grep_printer.specs.JsonTexts.{opening_line, stats_of, with_match, with_size};
-ghost use Rattle.grep_printer.specs.MatchedParts.{AreInOrder};
 ghost use Rattle.grep_printer.specs.PrinterSteps.{IsSameSink};
 ghost use Rattle.grep_output.specs.PendingTexts.{Adds, pending_bytes};
 ghost use Rattle.grep_printer.specs.Reports.{IsShown, call_of};
 ghost use Rattle.grep_printer.specs.StatsSums.{nanos_of};
+ghost use Rattle.grep_replace.specs.MatchedParts.{AreInOrder};
 
 use crate::format::{Event, Format};
 use crate::hyperlinks::{PrinterPath, shown_path};

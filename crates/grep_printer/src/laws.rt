@@ -3,7 +3,6 @@ ghost use Rattle.grep_printer.specs.CountedTexts.{StatsCount};
 ghost use Rattle.grep_printer.specs.JsonLaws.{BeginsTell, MessagesAreReadBack, MessagesTell};
 ghost use Rattle.grep_printer.specs.LinePlaces.{LinesArePlaced, PlainLinesAreNumbered};
 ghost use Rattle.grep_printer.specs.LinkedFields.{LinksAreAround};
-ghost use Rattle.grep_printer.specs.MatchedParts.{PartsAreSuccessive};
 ghost use Rattle.grep_printer.specs.PlanCounts.{JsonCounts, SummariesCount};
 ghost use Rattle.grep_printer.specs.PrinterSteps.{CallsPrint, RunsFailToPrint, RunsPrint};
 ghost use Rattle.grep_printer.specs.SearchMessages.{PartsHaveWords, PlansHaveWords};
@@ -13,6 +12,10 @@ use crate::format::Format;
 use crate::replacers::Replacer;
 use grep_output::Output;
 use grep_searcher::{FindAt, Matcher};
+
+// The parts that a printer writes or counts are successive matches of the matcher, from the start
+// of the report on.
+pub use grep_replace::laws::parts_are_successive;
 
 /// A run of a printer's sink that ended in `Ok` has printed the calls of its plan, in order, up to
 /// the first after which the search doesn't go on, and `finish`. Their texts come after what wasn't
@@ -26,14 +29,6 @@ pub fn runs_print<F: Format, M: FindAt, W: Output>()
     ensures made { CallsPrint F.rules M.Error.output M.facts M.first_at W.step }
     ensures ok { RunsPrint F.rules M.Error.output M.facts M.first_at W.step }
     ensures error { RunsFailToPrint F.rules M.Error.output M.facts M.first_at W.step }
-{}
-
-/// The parts that a printer writes or counts are successive matches of the matcher, from the start
-/// of the report on. Each is the first match from where the one before ended, or from one byte
-/// later if that one is empty. None is an empty match where the one before ended. After the last
-/// part no match lies in the report.
-pub fn parts_are_successive<M: FindAt>()
-    ensures { PartsAreSuccessive M.first_at }
 {}
 
 /// The line of a message is a text and a line feed. The text has no line feed itself, and any

@@ -1,6 +1,6 @@
 //! The lines in which the parts of a report start, each put as a piece of a text.
 ghost use Rattle.std.specs.Prelude.{◌≡◌, ◌+◌, ◌++◌, ◌<◌, ◌^◌, [], length};
-ghost use Rattle.grep_printer.specs.MatchedParts.{AreInOrder};
+ghost use Rattle.grep_replace.specs.MatchedParts.{AreInOrder};
 ghost use Rattle.grep_printer.specs.Reports.{line_kind};
 ghost use Rattle.grep_printer.specs.StandardTexts.{text_before};
 ghost use Rattle.grep_printer.specs.TextWriters.{PutsInPieces};

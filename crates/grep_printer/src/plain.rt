@@ -5,7 +5,7 @@ ghost use Rattle.std.specs.List.{count_by, flat_map};
 ghost use Rattle.grep_matcher.specs.Lines.{byte_of, lines};
 ghost use Rattle.grep_printer.specs.LineTexts.{is_plain, missing_end, plain_line, plain_lines};
 ghost use Rattle.grep_printer.specs.LineTexts.{plain_part};
-ghost use Rattle.grep_printer.specs.MatchedParts.{AreInOrder, ends_after};
+ghost use Rattle.grep_replace.specs.MatchedParts.{AreInOrder, ends_after};
 ghost use Rattle.grep_printer.specs.Reports.{HasPlainParts, IsShown, call_of};
 ghost use Rattle.grep_printer.specs.StandardTexts.{report_text};
 ghost use Rattle.grep_output.specs.PendingTexts.{Adds};

@@ -14,7 +14,7 @@ ghost use Rattle.grep_printer.specs.BareTexts.{WritesBehind, bare_text};
 ghost use Rattle.grep_printer.specs.CallParts.{FailsAtParts, has_match};
 ghost use Rattle.grep_printer.specs.Formats.{is_text};
 ghost use Rattle.grep_printer.specs.Hyperlinks.{unlinked};
-ghost use Rattle.grep_printer.specs.MatchedParts.{AreInOrder};
+ghost use Rattle.grep_replace.specs.MatchedParts.{AreInOrder};
 ghost use Rattle.grep_printer.specs.PartErrors.{EachErrorIs};
 ghost use Rattle.grep_printer.specs.PrinterSteps.{HasFound, IsAsBefore, IsPreparing, IsPushed};
 ghost use Rattle.grep_printer.specs.PrinterSteps.{IsSameSink};
@@ -26,9 +26,10 @@ ghost use Rattle.grep_printer.specs.Reports.{printed_event};
 use crate::bare::write_call;
 use crate::format::{Event, Format};
 use crate::hyperlinks::{PrinterPath, unlinked};
-use crate::parts::{PartsError, find_report_parts, search_error};
+use crate::parts::{find_report_parts, search_error};
 use crate::report::{Report, finish_of};
 use grep_output::{Output, Pending};
+use grep_replace::PartsError;
 use grep_searcher::{
     FindAt, Match, SearchError, Searcher, Sink, SinkContext, SinkFinish, SinkMatch,
 };

@@ -8,7 +8,7 @@ ghost use Rattle.grep_output.specs.PendingTexts.{PutsAll, pending_bytes};
 ghost use Rattle.grep_searcher.specs.Plans.{reported_bytes};
 ghost use Rattle.grep_printer.specs.CallParts.{has_match};
 ghost use Rattle.grep_printer.specs.Formats.{is_text};
-ghost use Rattle.grep_printer.specs.MatchedParts.{AreInOrder};
+ghost use Rattle.grep_replace.specs.MatchedParts.{AreInOrder};
 ghost use Rattle.grep_printer.specs.PrinterSteps.{HasFound, IsAsBefore, IsPushed, IsSameSink};
 ghost use Rattle.grep_printer.specs.PrinterSteps.{KeepsNoMore, PrintsCall};
 ghost use Rattle.grep_printer.specs.Reports.{FitsEvent, IsShownEvent, event_call};

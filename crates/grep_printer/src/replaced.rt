@@ -1,10 +1,10 @@
 //! Bytes in which each part that matches is replaced.
 ghost use Rattle.std.specs.Prelude.{◌≡◌, ◌≤◌, ◌+◌, ◌++◌, ◌∷◌, [], length, IfOk, OnOk};
 ghost use Rattle.grep_replace.specs.Groups.{LieWithin};
-ghost use Rattle.grep_printer.specs.MatchedParts.{AreInOrder};
+ghost use Rattle.grep_replace.specs.MatchedParts.{AreInOrder};
 ghost use Rattle.grep_printer.specs.CallParts.{asked_bytes, asked_start};
-ghost use Rattle.grep_printer.specs.ReplacedTexts.{end_of_line, ended, replaced_bytes};
-ghost use Rattle.grep_printer.specs.ReplacedTexts.{replaced_parts, replacement_at};
+ghost use Rattle.grep_replace.specs.ReplacedBytes.{replaced_bytes, replaced_parts};
+ghost use Rattle.grep_printer.specs.ReplacedTexts.{end_of_line, ended, replacement_at};
 ghost use Rattle.grep_printer.specs.Reports.{IsShown, call_of};
 
 use crate::report::Report;

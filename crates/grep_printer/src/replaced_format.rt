@@ -1,7 +1,7 @@
 //! A format that replaces each part that matches.
 ghost use Rattle.std.specs.Prelude.{◌≡◌, ◌+◌, ◌<◌, ◌^◌, [], IfOk, false, true, length};
 ghost use Rattle.grep_output.specs.PendingTexts.{Adds, pending_bytes};
-ghost use Rattle.grep_printer.specs.MatchedParts.{AreInOrder};
+ghost use Rattle.grep_replace.specs.MatchedParts.{AreInOrder};
 ghost use Rattle.grep_printer.specs.ReplacedTexts.{replaced_report};
 ghost use Rattle.grep_printer.specs.Reports.{FitsEvent, IsShown, IsShownEvent, call_of, event_call};
 ghost use Rattle.grep_printer.specs.Reports.{printed_event};

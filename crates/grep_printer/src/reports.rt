@@ -3,7 +3,7 @@ ghost use Rattle.std.specs.Prelude.{◌≡◌, ◌+◌, ◌<◌, ◌≤◌, ◌^
 ghost use Rattle.std.specs.List.{flat_map};
 ghost use Rattle.grep_matcher.specs.Lines.{byte_of};
 ghost use Rattle.grep_searcher.specs.Lines.{lines};
-ghost use Rattle.grep_printer.specs.MatchedParts.{AreInOrder};
+ghost use Rattle.grep_replace.specs.MatchedParts.{AreInOrder};
 ghost use Rattle.grep_output.specs.PendingTexts.{Adds};
 ghost use Rattle.grep_printer.specs.PartTexts.{across_text, clipped_text, is_in_span};
 ghost use Rattle.grep_printer.specs.PartTexts.{line_span, part_place, part_text, parts_text};

@@ -1,7 +1,7 @@
 //! The printer of lines.
 ghost use Rattle.std.specs.Prelude.{◌≡◌, ◌+◌, ◌<◌, ◌^◌, ◌&&◌, ◌++◌, None, is_some, length};
 ghost use Rattle.std.specs.Prelude.{if◌then◌else◌, not};
-ghost use Rattle.grep_printer.specs.MatchedParts.{AreInOrder};
+ghost use Rattle.grep_replace.specs.MatchedParts.{AreInOrder};
 ghost use Rattle.grep_output.specs.PendingTexts.{Adds};
 ghost use Rattle.grep_printer.specs.Reports.{IsShown, call_of};
 ghost use Rattle.grep_printer.specs.StandardTexts.{call_text, is_hidden, layout_of, new_progress};

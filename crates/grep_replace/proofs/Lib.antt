@@ -1,1 +1,3 @@
+pub mod FoundPartLemmas
+pub mod SuccessiveLemmas
 pub mod TemplateLemmas

@@ -1,2 +1,5 @@
 pub mod Groups
+pub mod MatchedParts
+pub mod PartsErrors
+pub mod ReplacedBytes
 pub mod Templates

@@ -11,7 +11,7 @@ use Rattle.grep_matcher.specs.Meanings.{Meaning}
 use Rattle.grep_printer.specs.CallParts.{parts_of_call}
 use Rattle.grep_printer.specs.Formats.{Scene}
 use Rattle.grep_printer.specs.LineTexts.{plain_line, plain_part}
-use Rattle.grep_printer.specs.MatchedParts.{first_from, parts_in}
+use Rattle.grep_replace.specs.MatchedParts.{first_from, parts_in}
 use Rattle.grep_printer.specs.StandardTexts.{layout_of, report_text}
 use Rattle.grep_printer.specs.declared.config.Config.{Config}
 use Rattle.grep_regex.specs.PatternFirstMatches.{first-matches}

@@ -9,7 +9,7 @@ use Rattle.std.specs.declared.alloc.AllocError.{AllocError}
 use Rattle.grep_printer.specs.LineTexts.{missing_end}
 use Rattle.grep_printer.specs.StatsSums.{capped}
 use Rattle.grep_printer.specs.declared.hyperlinks.PrinterPath.{PrinterPath}
-use Rattle.grep_printer.specs.MatchedParts.{first_from, parts_in}
+use Rattle.grep_replace.specs.MatchedParts.{first_from, parts_in}
 use Rattle.grep_regex.specs.Views.{regex_first_at, regex_meaning}
 use Rattle.grep_regex.specs.declared.regex.Regex.{Regex}
 use Rattle.grep_searcher.specs.Lines.{lines, strip}

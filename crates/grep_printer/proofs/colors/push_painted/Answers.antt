@@ -4,7 +4,7 @@ use Rattle.grep_printer.proofs.ColorLemmas.{IsPainting, matched-beyond, matched-
 use Rattle.grep_printer.proofs.PushLemmas.{pushed-last, pushed-two}
 use Rattle.grep_printer.specs.ColorRuns.{after_run, run_text}
 use Rattle.grep_printer.specs.ColoredTexts.{is_matched, painted_from, switch_text}
-use Rattle.grep_printer.specs.MatchedParts.{AreInOrder}
+use Rattle.grep_replace.specs.MatchedParts.{AreInOrder}
 use Rattle.grep_printer.proofs.colors.push_painted.Goals as goal
 use Rattle.grep_printer.proofs.colors.push_painted.Goals.{in-Some+then-start-end, in_default}
 

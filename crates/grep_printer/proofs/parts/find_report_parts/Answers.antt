@@ -4,8 +4,9 @@ use Rattle.std.specs.Prelude.{IfErr}
 use Rattle.grep_searcher.specs.Lines.{strip}
 use Rattle.grep_searcher.specs.SearchErrors.{IsOutOfMemory}
 use Rattle.grep_printer.proofs.CallPartLemmas.{across-asked, across-parts, line-asked, line-parts}
-use Rattle.grep_printer.specs.MatchedParts.{IsMatcherError, first_from, parts_in}
-use Rattle.grep_printer.specs.PartErrors.{EachErrorIs}
+use Rattle.grep_replace.specs.MatchedParts.{first_from, parts_in}
+use Rattle.grep_printer.proofs.PartErrorLemmas.{part-error}
+use Rattle.grep_printer.specs.PartErrors.{EachErrorIs, IsMatcherError}
 use Rattle.grep_printer.proofs.parts.find_report_parts.Goals as goal
 
 pub returns-then-multi_line_with_matcher-clause-parts :
@@ -29,7 +30,7 @@ returns-then-multi_line_with_matcher-clause-error g c =
     (λ e. IsOutOfMemory e ⊎ IsMatcherError g.M.Error.Display.output facts.fails bytes e)))
     (sym (across-asked report.number report.offset report.bytes.now report.shown.now report.start
     c.args.searcher.now.settings facts.meaning (g.M.FindAt.first_at c.args.matcher.now) report.kind c.requires.shown across))
-    c.find_parts.ensures.error
+    (part-error g.M.Error.Display.output facts.fails report.shown.now c.find_parts.result c.find_parts.ensures.error)
 
 pub returns-clause-parts : goal.returns-clause-parts
 returns-clause-parts g c =
@@ -58,4 +59,5 @@ returns-clause-error g c =
     (λ e. IsOutOfMemory e ⊎ IsMatcherError g.M.Error.Display.output facts.fails bytes e)))
     (line_is ∙ sym (line-asked report.number report.offset report.bytes.now report.shown.now report.start settings
     facts.meaning (g.M.FindAt.first_at c.args.matcher.now) report.kind c.requires.shown by_line))
-    c.find_parts-2.ensures.error
+    (part-error g.M.Error.Display.output facts.fails c.without_terminator-line.result.now c.find_parts-2.result
+    c.find_parts-2.ensures.error)

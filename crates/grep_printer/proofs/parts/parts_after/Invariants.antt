@@ -1,5 +1,5 @@
 use Rattle.std.proofs.Common.{◌≡◌, length}
-use Rattle.grep_printer.specs.MatchedParts.{parts_after}
+use Rattle.grep_replace.specs.MatchedParts.{parts_after}
 use Rattle.grep_printer.proofs.parts.parts_after.Given as goal
 
 abbrev pub invariant-loop-part : goal.invariant-loop-part

@@ -5,7 +5,7 @@ use Rattle.grep_searcher.specs.Lines.{lines}
 use Rattle.grep_printer.proofs.PartTextLemmas.{IsCrossing, crossing-more, crossing-none, ordered-after}
 use Rattle.grep_printer.proofs.PushLemmas.{pushed-more, pushed-none}
 use Rattle.grep_printer.specs.LineTexts.{next_number}
-use Rattle.grep_printer.specs.MatchedParts.{AreInOrder, parts_after}
+use Rattle.grep_replace.specs.MatchedParts.{AreInOrder, parts_after}
 use Rattle.grep_printer.specs.PartTexts.{across_text, clipped_text, line_span}
 use Rattle.grep_output.specs.PendingTexts.{Adds}
 use Rattle.grep_printer.specs.Reports.{line_kind}

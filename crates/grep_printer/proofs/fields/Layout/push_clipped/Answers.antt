@@ -1,6 +1,6 @@
 use Rattle.std.proofs.Common.{ℕ, ◌≤◌, ◌∙◌, List, ◌∷◌, ◌++◌, ap, arith, length, refl, subst}
 use Rattle.std.specs.List.{flat_map}
-use Rattle.grep_printer.specs.MatchedParts.{AreInOrder}
+use Rattle.grep_replace.specs.MatchedParts.{AreInOrder}
 use Rattle.grep_printer.proofs.PartTextLemmas.{IsWriting, clipped-none, writing-done, writing-more}
 use Rattle.grep_printer.proofs.PushLemmas.{pushed-all, pushed-more, pushed-none}
 use Rattle.grep_printer.specs.PartTexts.{clipped_text}

@@ -5,7 +5,7 @@ use Rattle.grep_printer.proofs.PartTextLemmas.{ordered-after}
 use Rattle.grep_printer.proofs.TextLemmas.{IsPushing, pushing-more, pushing-none}
 use Rattle.grep_printer.proofs.PushLemmas.{pushed-more, pushed-none}
 use Rattle.grep_printer.specs.LineTexts.{line_text, lines_text, place_after}
-use Rattle.grep_printer.specs.MatchedParts.{AreInOrder, parts_after}
+use Rattle.grep_replace.specs.MatchedParts.{AreInOrder, parts_after}
 use Rattle.grep_printer.proofs.fields.Layout.push_lines.Goals as goal
 
 pub loop-line-init : goal.loop-line-init

@@ -1,5 +1,5 @@
 use Rattle.std.proofs.Common.{◌^◌, arith, length, subst, sym}
-use Rattle.grep_printer.proofs.FoundPartLemmas.{ordered-within}
+use Rattle.grep_replace.proofs.FoundPartLemmas.{ordered-within}
 use Rattle.grep_printer.specs.LineTexts.{line_text}
 use Rattle.grep_output.specs.PendingTexts.{Adds}
 use Rattle.grep_printer.specs.Reports.{whole_text}

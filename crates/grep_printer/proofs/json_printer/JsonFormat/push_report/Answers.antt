@@ -1,5 +1,5 @@
 use Rattle.std.proofs.Common.{arith, length}
-use Rattle.grep_printer.proofs.FoundPartLemmas.{ends-within}
+use Rattle.grep_replace.proofs.FoundPartLemmas.{ends-within}
 use Rattle.grep_printer.proofs.json_printer.JsonFormat.push_report.Goals as goal
 
 pub add_report-requires-clause-within : goal.add_report-requires-clause-within

@@ -1,7 +1,7 @@
 use Rattle.std.proofs.Common.{◌≡◌, ◌∙◌, ◌-◌, Some, length, subst, sym}
-use Rattle.grep_printer.proofs.FoundPartLemmas.{finding-more, finding-none}
-use Rattle.grep_printer.specs.MatchedParts.{LiesFrom, first_from, found_from}
-use Rattle.grep_printer.proofs.parts.find_parts.Goals as goal
+use Rattle.grep_replace.proofs.FoundPartLemmas.{finding-more, finding-none}
+use Rattle.grep_replace.specs.MatchedParts.{LiesFrom, first_from, found_from}
+use Rattle.grep_replace.proofs.parts.find_parts.Goals as goal
 
 pub loop-found-init : goal.loop-found-init
 loop-found-init g c =

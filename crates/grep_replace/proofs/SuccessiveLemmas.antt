@@ -7,9 +7,9 @@ use Rattle.std.proofs.lemmas.List.Elements.{All-cons, All-nil}
 use Rattle.std.specs.Option.{option_and_then, option_map, option_map_or}
 use Rattle.std.specs.Prelude.{All, ◌&&◌, if◌then◌else◌, nat_le, nat_lt}
 use Rattle.grep_matcher.specs.FindResults.{IsFrom}
-use Rattle.grep_printer.proofs.FoundPartLemmas.{after-later, from-found}
-use Rattle.grep_printer.specs.MatchedParts.{AreSuccessive, below, first_from, found_from, is_passed}
-use Rattle.grep_printer.specs.MatchedParts.{next_part, parts_from, parts_in, position_after, with_part}
+use Rattle.grep_replace.proofs.FoundPartLemmas.{after-later, from-found}
+use Rattle.grep_replace.specs.MatchedParts.{AreSuccessive, below, first_from, found_from, is_passed}
+use Rattle.grep_replace.specs.MatchedParts.{next_part, parts_from, parts_in, position_after, with_part}
 
 -- a match that is found from a position in so many bytes lies in them, and starts there or later
 abbrev FindsFrom : (ℕ → Option (ℕ × ℕ)) → ℕ → Type 0

@@ -1,7 +1,7 @@
 use Rattle.std.proofs.Common.{length, ◌+◌, ◌-◌}
-use Rattle.grep_printer.proofs.FoundPartLemmas.{IsFinding}
-use Rattle.grep_printer.specs.MatchedParts.{first_from}
-use Rattle.grep_printer.proofs.parts.find_parts.Given as goal
+use Rattle.grep_replace.proofs.FoundPartLemmas.{IsFinding}
+use Rattle.grep_replace.specs.MatchedParts.{first_from}
+use Rattle.grep_replace.proofs.parts.find_parts.Given as goal
 
 abbrev pub invariant-loop-found : goal.invariant-loop-found
 invariant-loop-found g l =

@@ -1,5 +1,5 @@
-use Rattle.grep_printer.proofs.SuccessiveLemmas.{parts-are-successive}
-use Rattle.grep_printer.proofs.laws.parts_are_successive.Goals as goal
+use Rattle.grep_replace.proofs.SuccessiveLemmas.{parts-are-successive}
+use Rattle.grep_replace.proofs.laws.parts_are_successive.Goals as goal
 
 pub returns : goal.returns
 returns g c matcher bytes start limit begins =

@@ -2,10 +2,7 @@
 use Rattle.std.specs.Prelude.{◌≡◌, ℕ, zero, suc, ◌+◌, ◌-◌, ◌≤◌, ◌&&◌, ◌==◌, Bool, false}
 use Rattle.std.specs.Prelude.{if◌then◌else◌}
 use Rattle.std.specs.Prelude.{nat_lt, nat_le, List, [], ◌∷◌, length, Option, Some, None}
-use Rattle.std.specs.Global.{Global}
 use Rattle.std.specs.Option.{IfSome, option_and_then, option_map, option_map_or}
-use Rattle.grep_searcher.specs.SearchErrors.{IsMessageOf}
-use Rattle.grep_searcher.specs.declared.SearchError.{SearchError}
 
 -- the parts lie between two positions, in order, and none overlaps another one
 abbrev pub AreInOrder : ℕ → ℕ → List (ℕ × ℕ) → Type 0
@@ -95,10 +92,3 @@ PartsAreSuccessive {M} first_at =
     (matcher : M) (bytes : List ℕ) (start limit : ℕ) → start ≤ length bytes
     → AreSuccessive (first_from (first_at matcher bytes) start) (length bytes - start) limit 0 None
     (parts_in (first_from (first_at matcher bytes) start) (length bytes - start) limit)
-
--- an error is the matcher's, for some bytes, as a message with the text that its `Display` writes,
--- if that is known, or with no text
-abbrev pub IsMatcherError : {F : Type 0} → (F → Option (List ℕ)) → (List ℕ → F → Type 0) → List ℕ
-    → SearchError Global → Type 0
-IsMatcherError {F} output fails bytes e =
-    (error : F) × fails bytes error × IsMessageOf (output error) e

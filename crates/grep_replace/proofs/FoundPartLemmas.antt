@@ -5,8 +5,8 @@ use Rattle.std.proofs.lemmas.Bool.Decides.{nat_tests}
 use Rattle.std.proofs.lemmas.List.Elements.{All-nil, All-cons}
 use Rattle.std.specs.Option.{option_map_or}
 use Rattle.std.specs.Prelude.{All, if◌then◌else◌}
-use Rattle.grep_printer.specs.MatchedParts.{AreInOrder, LiesFrom, found_from, is_passed, parts_from}
-use Rattle.grep_printer.specs.MatchedParts.{parts_in, position_after, with_part}
+use Rattle.grep_replace.specs.MatchedParts.{AreInOrder, LiesFrom, found_from, is_passed, parts_from}
+use Rattle.grep_replace.specs.MatchedParts.{parts_in, position_after, with_part}
 
 -- where the last of some parts ends, or a position if there is none
 abbrev pub last_end : ℕ → List (ℕ × ℕ) → ℕ
@@ -51,7 +51,7 @@ pub after-later : (position : ℕ) (found : ℕ × ℕ) → position ≤ found.0
     → position + 1 ≤ position_after found
 after-later position found from inner = grind (arith, nat_tests)
 
-after-end : (found : ℕ × ℕ) → found.1 ≤ position_after found
+pub after-end : (found : ℕ × ℕ) → found.1 ≤ position_after found
 after-end found = grind (arith, nat_tests)
 
 module _ (first_at : ℕ → Option (ℕ × ℕ)) (size limit : ℕ) where
@@ -77,16 +77,16 @@ module _ (first_at : ℕ → Option (ℕ × ℕ)) (size limit : ℕ) where
   from-found count position end found is = ap (λ (f : Option (ℕ × ℕ)). option_map_or
       (λ m. with_part end m (parts_from first_at size limit count (position_after m) (Some m.1))) f []) is
 
-  passed-with : (end : Option ℕ) (found : ℕ × ℕ) (later : List (ℕ × ℕ)) → is_passed end found ≡ true
+  pub passed-with : (end : Option ℕ) (found : ℕ × ℕ) (later : List (ℕ × ℕ)) → is_passed end found ≡ true
       → with_part end found later ≡ later
   passed-with end found later passed = rw passed refl
 
-  kept-with : (end : Option ℕ) (found : ℕ × ℕ) (later : List (ℕ × ℕ)) → is_passed end found ≡ false
+  pub kept-with : (end : Option ℕ) (found : ℕ × ℕ) (later : List (ℕ × ℕ)) → is_passed end found ≡ false
       → with_part end found later ≡ found ∷ later
   kept-with end found later kept = rw kept refl
 
   -- there is one more search, since the match that it finds lies in the bytes
-  one-more : (count position : ℕ) → size + 1 ≤ position + count → position ≤ size
+  pub one-more : (count position : ℕ) → size + 1 ≤ position + count → position ≤ size
       → (fewer : ℕ) × (count ≡ suc fewer)
   one-more zero position enough within = absurd (omega arith)
   one-more (suc fewer) position enough within = (fewer, refl)
