@@ -14,7 +14,6 @@ pub mod StrippedTreeLemmas
 pub mod NamedByteLemmas
 pub mod FindLemmas
 pub mod GroupLemmas
-pub mod GroupStartLemmas
 pub mod SameEndLemmas
 pub mod EdgeLemmas
 pub mod SeenLemmas

@@ -163,6 +163,7 @@ impl FindAt for LiteralRegexMatcher<'_> {
 
 /// The one group is the match: the expression has no other.
 impl CapturesAt for LiteralRegexMatcher<'_> {
+    ghost use Rattle.grep_regex.specs.GroupStarts.{groups-are_of_first_match};
     ghost use Rattle.grep_regex.specs.GroupsPast.{groups-past};
     ghost use Rattle.grep_regex.specs.LiteralViews.{literal_regex};
     ghost use Rattle.grep_regex.specs.Views.{regex_groups_at, regex_options, regex_patterns};
@@ -171,6 +172,9 @@ impl CapturesAt for LiteralRegexMatcher<'_> {
 
     ghost none_past = { λ m.
         groups-past (regex_options (literal_regex m)) (regex_patterns (literal_regex m)) };
+
+    ghost same_from_start = { λ m. groups-are_of_first_match
+        (regex_options (literal_regex m)) (regex_patterns (literal_regex m)) };
 
     fn captures_at(
         &self,

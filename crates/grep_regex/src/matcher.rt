@@ -105,6 +105,7 @@ impl FindAt for RegexMatcher<'_> {
 
 /// The groups are those of the pattern that matches: each pattern has its own numbers.
 impl CapturesAt for RegexMatcher<'_> {
+    ghost use Rattle.grep_regex.specs.GroupStarts.{groups-are_of_first_match};
     ghost use Rattle.grep_regex.specs.GroupsPast.{groups-past};
     ghost use Rattle.grep_regex.specs.Views.{matcher_regex, regex_groups_at};
     ghost use Rattle.grep_regex.specs.Views.{regex_options, regex_patterns};
@@ -113,6 +114,9 @@ impl CapturesAt for RegexMatcher<'_> {
 
     ghost none_past = { λ m.
         groups-past (regex_options (matcher_regex m)) (regex_patterns (matcher_regex m)) };
+
+    ghost same_from_start = { λ m. groups-are_of_first_match
+        (regex_options (matcher_regex m)) (regex_patterns (matcher_regex m)) };
 
     fn captures_at(
         &self,

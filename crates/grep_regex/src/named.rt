@@ -165,6 +165,7 @@ impl<N: Naming> FindAt for NamedMatcher<'_, N> {
 
 /// The groups are those of the pattern that matches: each pattern has its own numbers.
 impl<N: Naming> CapturesAt for NamedMatcher<'_, N> {
+    ghost use Rattle.grep_regex.specs.GroupStarts.{groups-are_of_first_match};
     ghost use Rattle.grep_regex.specs.GroupsPast.{groups-past};
     ghost use Rattle.grep_regex.specs.NamedViews.{named_regex};
     ghost use Rattle.grep_regex.specs.Views.{regex_groups_at, regex_options, regex_patterns};
@@ -173,6 +174,9 @@ impl<N: Naming> CapturesAt for NamedMatcher<'_, N> {
 
     ghost none_past = { λ m.
         groups-past (regex_options (named_regex m)) (regex_patterns (named_regex m)) };
+
+    ghost same_from_start = { λ m. groups-are_of_first_match
+        (regex_options (named_regex m)) (regex_patterns (named_regex m)) };
 
     fn captures_at(
         &self,

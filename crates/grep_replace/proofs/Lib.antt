@@ -1,3 +1,4 @@
 pub mod FoundPartLemmas
+pub mod ReplaceLemmas
 pub mod SuccessiveLemmas
 pub mod TemplateLemmas

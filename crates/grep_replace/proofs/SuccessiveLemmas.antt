@@ -4,11 +4,12 @@ use Rattle.std.proofs.Common.{true, false, arith, ap, sym, ◌∙◌, refl, subs
 use Rattle.std.proofs.lemmas.Bool.{and_parts}
 use Rattle.std.proofs.lemmas.Bool.Decides.{nat_tests}
 use Rattle.std.proofs.lemmas.List.Elements.{All-cons, All-nil}
+use Rattle.std.proofs.Math.Path.{fun_ext}
 use Rattle.std.specs.Option.{option_and_then, option_map, option_map_or}
 use Rattle.std.specs.Prelude.{All, ◌&&◌, if◌then◌else◌, nat_le, nat_lt}
 use Rattle.grep_matcher.specs.FindResults.{IsFrom}
 use Rattle.grep_replace.proofs.FoundPartLemmas.{after-later, from-found}
-use Rattle.grep_replace.specs.MatchedParts.{AreSuccessive, below, first_from, found_from, is_passed}
+use Rattle.grep_replace.specs.MatchedParts.{AreSuccessive, all_parts, below, first_from, found_from, is_passed}
 use Rattle.grep_replace.specs.MatchedParts.{next_part, parts_from, parts_in, position_after, with_part}
 
 -- a match that is found from a position in so many bytes lies in them, and starts there or later
@@ -215,3 +216,35 @@ unfolding parts_in
 parts-are-successive bytes start limit first_at begins within =
     from-are (first_from first_at start) (length bytes - start) limit (finds-from bytes start first_at begins within)
     (length bytes - start + 1) 0 None (omega arith)
+
+-- from 0 on the first matches are the same
+from-zero : (first_at : ℕ → Option (ℕ × ℕ)) → first_from first_at 0 ≡ first_at
+from-zero first_at =
+    fun_ext (λ position. same (first_at (0 + position)) ∙ ap first_at (plain position))
+  where
+    plain : (position : ℕ) → 0 + position ≡ position
+    plain position = omega arith
+
+    same : (found : Option (ℕ × ℕ)) → option_map (λ m. (m.0 - 0, m.1 - 0)) found ≡ found
+    same None = refl
+    same (Some m) =
+        let start : m.0 - 0 ≡ m.0 = omega arith in
+        let end : m.1 - 0 ≡ m.1 = omega arith in
+        rw (start, end) refl
+
+-- so are the parts
+pub all-found : (first_at : ℕ → Option (ℕ × ℕ)) (size : ℕ)
+    → parts_in (first_from first_at 0) (size - 0) (size + 1) ≡ all_parts first_at size
+all-found first_at size =
+    let whole : size - 0 ≡ size = omega arith in
+    rw (whole, from-zero first_at) refl
+
+-- and they are successive
+pub all-are-successive : (bytes : List ℕ) (first_at : ℕ → Option (ℕ × ℕ))
+    → ((position : ℕ) → position ≤ length bytes → IsFrom position bytes (first_at position))
+    → AreSuccessive first_at (length bytes) (length bytes + 1) 0 None (all_parts first_at (length bytes))
+unfolding parts_in
+all-are-successive bytes first_at within =
+    from-are first_at (length bytes) (length bytes + 1) (λ position found fits is.
+    let lies = subst (IsFrom position bytes) is (within position fits) in (lies.0, lies.1.0, lies.1.1))
+    (length bytes + 1) 0 None (omega arith)

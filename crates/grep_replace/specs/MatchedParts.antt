@@ -86,9 +86,28 @@ module _ (first_at : ℕ → Option (ℕ × ℕ)) (size limit : ℕ) where
       (next_part position end ≡ Some part)
       × AreSuccessive (position_after part) (Some part.1) later
 
+-- all matches in so many bytes that are parts, also an empty one at their very end
+abbrev pub all_parts : (ℕ → Option (ℕ × ℕ)) → ℕ → List (ℕ × ℕ)
+all_parts first_at size = parts_in first_at size (size + 1)
+
 -- the parts that are looked for in any bytes, from a start on, are successive matches of a matcher
 abbrev pub PartsAreSuccessive : {M : Type 0} → (M → List ℕ → ℕ → Option (ℕ × ℕ)) → Type 0
 PartsAreSuccessive {M} first_at =
     (matcher : M) (bytes : List ℕ) (start limit : ℕ) → start ≤ length bytes
     → AreSuccessive (first_from (first_at matcher bytes) start) (length bytes - start) limit 0 None
     (parts_in (first_from (first_at matcher bytes) start) (length bytes - start) limit)
+
+-- all parts of any bytes are those that are looked for from their start on, with a limit past their
+-- end
+abbrev pub AllPartsAreFound : {M : Type 0} → (M → List ℕ → ℕ → Option (ℕ × ℕ)) → Type 0
+AllPartsAreFound {M} first_at =
+    (matcher : M) (bytes : List ℕ)
+    → parts_in (first_from (first_at matcher bytes) 0) (length bytes - 0) (length bytes + 1)
+    ≡ all_parts (first_at matcher bytes) (length bytes)
+
+-- and they are successive matches of a matcher
+abbrev pub AllPartsAreSuccessive : {M : Type 0} → (M → List ℕ → ℕ → Option (ℕ × ℕ)) → Type 0
+AllPartsAreSuccessive {M} first_at =
+    (matcher : M) (bytes : List ℕ)
+    → AreSuccessive (first_at matcher bytes) (length bytes) (length bytes + 1) 0 None
+    (all_parts (first_at matcher bytes) (length bytes))

@@ -1,5 +1,6 @@
 //! The trait of a pattern whose matches have groups.
-ghost use Rattle.std.specs.Prelude.{◌≡◌, ◌<◌, ◌≤◌, ℕ, List, [], length, Option, IfOk, OnOk};
+ghost use Rattle.std.specs.Prelude.{◌≡◌, ◌<◌, ◌≤◌, ℕ, List, [], length, Option, Some};
+ghost use Rattle.std.specs.Prelude.{IfOk, OnOk};
 ghost use Rattle.grep_replace.specs.Groups.{IsOfMatch, LieWithin};
 
 use grep_matcher::{FindAt, Match};
@@ -31,6 +32,12 @@ pub trait CapturesAt: FindAt {
         ensures groups { OnOk result (groups.new.items ≡ groups_at self.now haystack.now start) }
         ensures whole { IfOk result (IsOfMatch groups.new.items) }
         ensures within { OnOk result (LieWithin (length haystack.now) groups.new.items) };
+
+    /// The groups of the first match from a position on are also those from the start of that match
+    /// on.
+    ghost same_from_start: { (m : Self) (haystack : List ℕ) (position start end : ℕ)
+        → Self.first_at m haystack position ≡ Some (start, end)
+        → groups_at m haystack start ≡ groups_at m haystack position };
 }
 
 /// A reference is the matcher that it refers to.
@@ -38,6 +45,8 @@ impl<M: CapturesAt> CapturesAt for &M {
     ghost groups_at = { λ m. M.groups_at m.now };
 
     ghost none_past = { λ m. M.none_past m.now };
+
+    ghost same_from_start = { λ m. M.same_from_start m.now };
 
     fn captures_at(
         &self,

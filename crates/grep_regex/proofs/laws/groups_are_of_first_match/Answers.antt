@@ -1,4 +1,4 @@
-use Rattle.grep_regex.proofs.GroupStartLemmas.{groups-are_of_first_match}
+use Rattle.grep_regex.specs.GroupStarts.{groups-are_of_first_match}
 use Rattle.grep_regex.proofs.laws.groups_are_of_first_match.Goals as goal
 
 pub returns : goal.returns

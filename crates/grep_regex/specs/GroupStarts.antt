@@ -1,7 +1,7 @@
--- The groups from a position on are those from the start of the first match on.
-use Rattle.std.proofs.Common.{◌≡◌, ℕ, List, [], length, Option, None, Some, refl, sym, ap, ◌∙◌}
-use Rattle.std.proofs.Common.{arith}
-use Rattle.std.proofs.Common.{option_map}
+-- The groups from a position on are those from the start of the first match on. This is the proof
+-- of a law of `CapturesAt`, which may cite `specs` alone.
+use Rattle.std.proofs.Common.{◌≡◌, ℕ, List, [], length, Option, None, Some, option_map, arith}
+use Rattle.std.proofs.Common.{refl, sym, ap, ◌∙◌}
 use Rattle.std.proofs.lemmas.Option.{same_Some}
 use Rattle.regex_hir.specs.Find.{Match}
 use Rattle.regex_hir.specs.Re.{Re, Rest, accept, attempt}
@@ -44,10 +44,12 @@ module _ (bytes : List ℕ) (re : Re) (hay : List ℕ) where
           ≡ option_map_or made (find_clear bytes re hay from) none
       go None is spans = absurd (let never = spans in cc)
       go (Some m) is spans =
-          let same : m.start ≡ start = ap (λ (found : ℕ × ℕ). found.0) (same_Some _ _ spans) in
+          let same : m.start ≡ start =
+          ap (λ (found : ℕ × ℕ). found.0) (same_Some _ _ spans) in
           ap (λ o. option_map_or made o none)
           (ap (find_clear bytes re hay) (sym same) ∙ found-again from m is ∙ sym is)
 
+-- so are the groups
 pub groups-are_of_first_match : GroupsAreOfFirstMatch
 groups-are_of_first_match o patterns haystack from start end found =
     let seen = seen_bytes o.line_terminator haystack in
