@@ -1,5 +1,5 @@
 //! Tests of what is built on the search: the program `lgrep` as a library, the small callers of
-//! `uses`, and the examples of upstream's pages.
+//! `uses`, replacing, and the examples of upstream's pages.
 mod filtered;
 mod kept;
 mod lent;
@@ -7,4 +7,5 @@ mod measured;
 mod pieces;
 mod printing;
 mod programs;
+mod replacing;
 mod upstream;

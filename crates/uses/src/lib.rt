@@ -16,7 +16,7 @@
 //! `take_lines` the first ones with how many bytes they take, and `count_gaps` counts where lines
 //! were left out between two reports. `count_first_bytes` counts lines by their first byte,
 //! `flag_lines` says of each line whether it matches, and `first_difference` compares the lines of
-//! two slices. `CALLING.md` says which laws they use.
+//! two slices. `redact` replaces all matches in a slice. `CALLING.md` says which laws they use.
 #![tactic(auto)]
 
 mod around;
@@ -41,6 +41,7 @@ mod outline;
 mod path;
 mod plain;
 mod prefix;
+mod redaction;
 mod report;
 mod taken;
 mod totals;
@@ -66,6 +67,7 @@ pub use numbered::numbered_lines;
 pub use outline::search_outline;
 pub use path::{count_in_path, has_match};
 pub use prefix::count_with_prefix;
+pub use redaction::redact;
 pub use report::{in_context, reporter};
 pub use taken::take_lines;
 pub use totals::count_in_paths;
