@@ -13,5 +13,6 @@ pub mod NumberedTexts
 pub mod Outlines
 pub mod PathCounts
 pub mod PlainSettings
+pub mod PlannedCalls
 pub mod Prefixes
 pub mod TakenLines

@@ -11,12 +11,22 @@ use Rattle.grep_searcher.specs.MatchHandlers.{KeptReport, kept_line}
 use Rattle.grep_searcher.specs.Meanings.{Meaning}
 use Rattle.grep_searcher.specs.Plans.{line, reported_bytes, search_plan, Settings}
 use Rattle.grep_searcher.specs.SearchLaws.{match_calls, matched_lines}
+use Rattle.grep_searcher.specs.Searches.{IsInput, Taken}
+use Rattle.grep_searcher.specs.Source.{ReadResult}
 use Rattle.uses.specs.PlainSettings.{held_to}
 
 -- the first matched lines, at most n, with their numbers, their offsets and their bytes
 abbrev pub first_lines : ℕ → Settings → Meaning → List ℕ → List KeptReport
 first_lines n settings meaning bytes =
     map (kept_line settings bytes) (take n (matched_lines settings meaning bytes))
+
+-- these are the first matched lines of a reader, at most n, whatever follows what was taken of it
+abbrev pub AreFirstLines : {R : Type 0} → (R → Option (List ℕ)) → (R → ReadResult → R → Type 0) → ℕ
+    → Settings → Meaning → R → List KeptReport → R → Type 0
+AreFirstLines remaining read_step n settings meaning reader found reader' =
+    (taken : Taken remaining read_step reader reader')
+    × ((bytes : List ℕ) → IsInput settings taken.ended taken.pieces bytes
+    → found ≡ first_lines n settings meaning bytes)
 
 -- the bytes of the matched lines, joined
 abbrev pub matched_bytes : Settings → Meaning → List ℕ → List ℕ

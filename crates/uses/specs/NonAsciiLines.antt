@@ -1,5 +1,5 @@
 -- Lines that have a byte that isn't ASCII.
-use Rattle.std.specs.Prelude.{ℕ, ◌+◌, Bool, not, false, List, Option, Some, count_by}
+use Rattle.std.specs.Prelude.{◌≡◌, ℕ, ◌+◌, Bool, not, false, List, Option, Some, count_by}
 use Rattle.std.specs.Char.{is_ascii}
 use Rattle.std.specs.List.{list_any, position}
 use Rattle.std.specs.Option.{option_map}
@@ -9,6 +9,7 @@ use Rattle.grep_searcher.specs.LineMatches.{MatchesByLine}
 use Rattle.grep_searcher.specs.Lines.{byte_of, lines, strip}
 use Rattle.grep_searcher.specs.Meanings.{MatcherFacts, Meaning}
 use Rattle.grep_searcher.specs.Plans.{Settings}
+use Rattle.grep_searcher.specs.Searches.{searched_bytes}
 
 -- a match of one byte, and the first byte of a haystack that passes a test
 abbrev pub one_byte : ℕ → ℕ × ℕ
@@ -41,3 +42,8 @@ abbrev pub non_ascii_count : Settings → List ℕ → ℕ
 non_ascii_count settings bytes =
     count_by (λ line. list_any is_high (strip settings.line_terminator line))
     (lines (byte_of settings.line_terminator) bytes)
+
+-- so many lines of an input, decoded, have such a byte
+abbrev pub IsNonAsciiCount : Settings → List ℕ → ℕ → Type 0
+IsNonAsciiCount settings input count =
+    count ≡ non_ascii_count settings (searched_bytes settings input)

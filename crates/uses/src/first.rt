@@ -1,11 +1,11 @@
 //! The first matches of a reader, and the first alone.
 ghost use Rattle.std.specs.Prelude.{◌≡◌, ◌⊎◌, true, List, ℕ, Some, IfOk, IfErr};
-ghost use Rattle.grep_searcher.specs.Searches.{EndsUnread, IsInput, Taken};
+ghost use Rattle.grep_searcher.specs.Searches.{EndsUnread};
 ghost use Rattle.grep_searcher.specs.LineCounts.{IsLineSearch};
 ghost use Rattle.grep_searcher.specs.Plans.{IsLawful};
 ghost use Rattle.grep_searcher.specs.SearchErrors.{is_out_of_memory};
 ghost use Rattle.grep_searcher.specs.SearchFailures.{IsFaultless};
-ghost use Rattle.uses.specs.MatchedLines.{first_lines, IsFirstLine};
+ghost use Rattle.uses.specs.MatchedLines.{AreFirstLines, IsFirstLine};
 ghost use Rattle.uses.specs.PlainSettings.{held_to};
 
 use crate::plain::{input_is_searched, searcher_held_to};
@@ -32,9 +32,8 @@ pub fn first_matches<M: Matcher + Drop, R: Source>(
     n: usize,
 ) -> Result<Vec<KeptMatch>, SearchError>
     ensures lines { IsLineSearch (M.facts matcher) searcher.old.settings
-        → IfOk result (λ lines. (taken : Taken R.remaining R.step reader.old reader.new)
-        × ((bytes : List ℕ) → IsInput searcher.old.settings taken.ended taken.pieces bytes
-        → lines.items ≡ first_lines n searcher.old.settings (M.facts matcher).meaning bytes)) }
+        → IfOk result (λ lines. AreFirstLines R.remaining R.step n searcher.old.settings
+        (M.facts matcher).meaning reader.old lines.items reader.new) }
     ensures settings { searcher.new.settings ≡ searcher.old.settings }
     ensures buffers { searcher.old.has_buffers ≡ true → searcher.new.has_buffers ≡ true }
 {

@@ -2,10 +2,10 @@
 ghost use Rattle.std.specs.Prelude.{◌≡◌, ◌+◌, ◌<◌, true, count_by, IfOk, IfErr};
 ghost use Rattle.grep_searcher.specs.Gaps.{gaps};
 ghost use Rattle.grep_searcher.specs.LineCounts.{IsLineSearch};
-ghost use Rattle.grep_searcher.specs.Plans.{is_break, search_plan};
-ghost use Rattle.grep_searcher.specs.Searches.{searched_bytes};
+ghost use Rattle.grep_searcher.specs.Plans.{is_break};
 ghost use Rattle.grep_searcher.specs.SearchFailures.{IsDecodingError, IsFaultless};
 ghost use Rattle.grep_searcher.specs.SearchLaws.{calls_of, report_calls};
+ghost use Rattle.uses.specs.PlannedCalls.{planned_calls};
 
 use grep_searcher::laws::{breaks_are_gaps, runs_count_calls, runs_end, searches_run};
 use grep_searcher::{Matcher, SearchError, Searcher, Sink, SinkContext, SinkFinish, SinkMatch};
@@ -25,12 +25,12 @@ pub fn count_gaps<M: Matcher + Drop>(
     bytes: &[u8],
 ) -> Result<u64, SearchError>
     ensures breaks { IsLineSearch (M.facts matcher) searcher.old.settings → IfOk result (λ count.
-        count ≡ count_by is_break (calls_of (search_plan searcher.old.settings
-        (M.facts matcher).meaning (searched_bytes searcher.old.settings bytes.now)).calls)) }
+        count ≡ count_by is_break (calls_of (planned_calls searcher.old.settings
+        (M.facts matcher).meaning bytes.now))) }
     ensures gaps { IsLineSearch (M.facts matcher) searcher.old.settings
         → 0 < searcher.old.settings.after_context + searcher.old.settings.before_context
-        → IfOk result (λ count. count ≡ gaps (report_calls (search_plan searcher.old.settings
-        (M.facts matcher).meaning (searched_bytes searcher.old.settings bytes.now)).calls)) }
+        → IfOk result (λ count. count ≡ gaps (report_calls (planned_calls searcher.old.settings
+        (M.facts matcher).meaning bytes.now))) }
     ensures error { IsFaultless (M.facts matcher) searcher.old.settings
         → IfErr result (IsDecodingError searcher.old (M.facts matcher).meaning bytes.now) }
     ensures settings { searcher.new.settings ≡ searcher.old.settings }

@@ -4,8 +4,7 @@ ghost use Rattle.std.specs.Prelude.{◌≡◌, ◌<◌, length, false, true, IfO
 ghost use Rattle.std.specs.List.{position};
 ghost use Rattle.grep_searcher.specs.HitLines.{IsUnlimited};
 ghost use Rattle.grep_searcher.specs.Plans.{is_across};
-ghost use Rattle.grep_searcher.specs.Searches.{searched_bytes};
-ghost use Rattle.uses.specs.NonAsciiLines.{is_high, non_ascii, non_ascii_count};
+ghost use Rattle.uses.specs.NonAsciiLines.{IsNonAsciiCount, is_high, non_ascii};
 
 use crate::count::count_matching_lines;
 use grep_searcher::laws::hits_are_selected;
@@ -23,8 +22,7 @@ pub fn count_non_ascii_lines(searcher: &mut Searcher, bytes: &[u8]) -> Result<u6
     ensures count { is_across searcher.old.settings non_ascii ≡ false
         → searcher.old.settings.binary_detection ≡ BinaryDetection.None
         → IsUnlimited searcher.old.settings → searcher.old.settings.invert_match ≡ false
-        → IfOk result (λ count. count ≡ non_ascii_count searcher.old.settings
-        (searched_bytes searcher.old.settings bytes.now)) }
+        → IfOk result (IsNonAsciiCount searcher.old.settings bytes.now) }
     ensures settings { searcher.new.settings ≡ searcher.old.settings }
     ensures buffers { searcher.old.has_buffers ≡ true → searcher.new.has_buffers ≡ true }
 {

@@ -1,13 +1,9 @@
 //! How many lines of a file match, and whether one does.
-ghost use Rattle.std.specs.Prelude.{◌≡◌, ℕ, List, Some, true, IfOk, IfErr};
-ghost use Rattle.grep_searcher.specs.FileSearches.{OpensAt};
+ghost use Rattle.std.specs.Prelude.{◌≡◌, true, IfOk, IfErr};
 ghost use Rattle.std.specs.declared.io.Error.{Error};
-ghost use Rattle.grep_searcher.specs.BoundedReads.{IsReadToMatch};
-ghost use Rattle.grep_searcher.specs.Searches.{searched_bytes};
 ghost use Rattle.grep_searcher.specs.LineCounts.{IsLineSearch};
-ghost use Rattle.grep_searcher.specs.MatchHandlers.{has_selected};
 ghost use Rattle.grep_searcher.specs.SearchFailures.{IsFaultless};
-ghost use Rattle.uses.specs.PathCounts.{IsCountAt};
+ghost use Rattle.uses.specs.PathCounts.{IsCountAt, IsFoundAt};
 
 use grep_searcher::laws::{files_count_lines, files_find_lines};
 use grep_searcher::sinks::{Count, Found, OnMatch};
@@ -57,13 +53,8 @@ pub fn has_match<R: Open, M: Matcher + Drop, P: AsPath>(
     path: P,
 ) -> Result<bool, SearchError>
     ensures found { IsLineSearch (M.facts matcher) searcher.old.settings
-        → IfOk result (λ found. (file read : R.File)
-        × OpensAt (R.opens rt.now) (P.path_text path) (Ok file)
-        × ((input : List ℕ) → R.File.remaining file ≡ Some input
-        → (found ≡ has_selected searcher.old.settings (M.facts matcher).meaning
-        (searched_bytes searcher.old.settings input))
-        × IsReadToMatch searcher.old.settings (M.facts matcher).meaning input
-        (R.File.remaining read))) }
+        → IfOk result (IsFoundAt (R.opens rt.now) R.File.remaining (M.facts matcher)
+        searcher.old.settings (P.path_text path)) }
     ensures settings { searcher.new.settings ≡ searcher.old.settings }
     ensures buffers { searcher.old.has_buffers ≡ true → searcher.new.has_buffers ≡ true }
     ensures error { IsFaultless (M.facts matcher) searcher.old.settings
