@@ -39,13 +39,11 @@ use Rattle.linegrep_cli.specs.OptionUses.{has}
 use Rattle.linegrep_cli.specs.PathSeparators.{path_separator_of}
 use Rattle.linegrep_cli.specs.PrinterOptions.{IsNew, IsNewRun, IsPrinterFor, counts_all}
 use Rattle.linegrep_cli.specs.PrintingEngines.{IsEngineStep, detection_with}
-use Rattle.linegrep_cli.specs.ProgramRuns.{without_memory}
 use Rattle.linegrep_cli.specs.ProgramRuns.{HasAnswerStatus, IsAnswered, IsOptionsRun, IsProgramRun}
-use Rattle.linegrep_cli.specs.ProgramRuns.{no_memory}
 use Rattle.linegrep_cli.specs.ProgramRuns.{of_fault, of_listing as OfListing, of_options, of_parsed, of_refusal}
 use Rattle.linegrep_cli.specs.ProgramRuns.{of_search as OfSearch}
 use Rattle.linegrep_cli.specs.ProgramRuns.{of_text, of_types}
-use Rattle.linegrep_cli.specs.ProgramRuns.{out_of_memory}
+use Rattle.linegrep_cli.specs.ProgramRuns.{without_memory}
 use Rattle.linegrep_cli.specs.RunInputs.{AreSearched, IsFileInput, IsReaderInput}
 use Rattle.linegrep_cli.specs.RunScopes.{quiet_of}
 use Rattle.linegrep_cli.specs.SearchTexts.{Input, no_findings, no_input, settings_for}
@@ -411,8 +409,8 @@ module _ {S F R W X : Type 0} (message : AllocError → Option (List ℕ)) (worl
         × AreOptionsFor world.errors.step (world.folders.facts system) arguments streams errors options
         × HasEnded world system before options input ended)
     by-words (of_fault words said refusal failure are reads refused) = absurd (other refused.status)
-    by-words (no_memory (failure, memory, refused)) = absurd (other refused.status)
-    by-words (of_parsed words said parsed are read (out_of_memory (failure, memory, refused))) =
+    by-words (without_memory (failure, memory, refused)) = absurd (other refused.status)
+    by-words (of_parsed words said parsed are read (without_memory (failure, memory, refused))) =
         absurd (other refused.status)
     by-words (of_parsed words said parsed are read (of_options options uses operands lists used named listed set run)) =
         elim (by-options options said run) [

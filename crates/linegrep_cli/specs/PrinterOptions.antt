@@ -123,6 +123,17 @@ abbrev pub color_choice : Options → Option (List ℕ)
 color_choice options = if has options Color then option_map (λ choice. choice.now) options.color
     else if has options Pretty then Some (codes "always") else None
 
+-- some settings of a printer of lines, with what options ask for of what is written of a line
+abbrev pub with_line_parts : Options → Config → Config
+with_line_parts options config = record config {
+  column = shows_columns options;
+  byte_offset = has options ByteOffset;
+  only_matching = has options OnlyMatching;
+  max_columns = column_limit options.max_columns;
+  max_columns_preview = has options MaxColumnsPreview;
+  trim_ascii = has options Trim;
+}
+
 -- the settings of the printer of lines, with some colors and separators
 abbrev pub line_settings : Options → ColorSpecs → Option (Bor Separators) → Config
 line_settings options colors separators = record {

@@ -32,9 +32,9 @@ use Rattle.linegrep_cli.specs.OptionMeanings.{paths_of}
 use Rattle.linegrep_cli.specs.OptionUses.{has}
 use Rattle.linegrep_cli.specs.OptionValues.{AreLists, AreOptions, names_input}
 use Rattle.linegrep_cli.specs.Listings.{IsListingRun}
-use Rattle.linegrep_cli.specs.Refusals.{IsCause, IsCauseForFiles, IsRefusedFor, IsRefusedWith}
+use Rattle.linegrep_cli.specs.Refusals.{IsCauseForFiles, IsRefusedFor, IsRefusedWith}
 use Rattle.linegrep_cli.specs.Refusals.{IsRefusedWithoutMemory, IsSaid}
-use Rattle.linegrep_cli.specs.WholeRuns.{IsWholeRun}
+use Rattle.linegrep_cli.specs.WholeRuns.{IsSearchRun}
 use Rattle.linegrep_cli.specs.Worlds.{World}
 use Rattle.linegrep_cli.specs.declared.lists.Lists.{Lists}
 use Rattle.linegrep_cli.specs.declared.options.Options.{Options}
@@ -152,15 +152,13 @@ module _ {S F R W X : Type 0} (message : AllocError → Option (List ℕ)) (worl
         → exclude_each_other options ≡ false → has options Files ≡ false
         → ArePatterns world.input.remaining world.input.step (world.folders.facts system).reads
         options input (map string_bytes patterns) mid
-        → IsRefusedFor world.errors.step (IsCause (world.folders.facts system) options patterns)
-        mid output errors ended errors'
-        ⊎ IsWholeRun message world system options patterns mid output errors ended
+        → IsSearchRun message world system options patterns mid output errors ended errors'
         → IsOptionsRun options input output errors ended errors'
 
   -- what the program does by parsed arguments: what the options say, unless memory is out
   pub data IsParsedRun (parsed : Parsed) (streams : Streams) (input : R) (output : W) (errors : X)
       : Ended R W → X → Type 0 where
-    out_of_memory : {ended : Ended R W} {errors' : X}
+    without_memory : {ended : Ended R W} {errors' : X}
         → IsRefusedWithoutMemory world.errors.step input output errors ended errors'
         → IsParsedRun parsed streams input output errors ended errors'
     of_options : {ended : Ended R W} {errors' : X} (options : Options)
@@ -182,7 +180,7 @@ module _ {S F R W X : Type 0} (message : AllocError → Option (List ℕ)) (worl
         → reading_of (texts words) ≡ Refused refusal
         → IsRefusedWith world.errors.step failure input output said ended errors'
         → IsProgramRun arguments streams input output errors ended errors'
-    no_memory : {ended : Ended R W} {errors' : X}
+    without_memory : {ended : Ended R W} {errors' : X}
         → IsRefusedWithoutMemory world.errors.step input output errors ended errors'
         → IsProgramRun arguments streams input output errors ended errors'
     of_parsed : {ended : Ended R W} {errors' : X} (words : List (Vec ℕ Global)) (said : X)

@@ -76,6 +76,17 @@ IsLabelError (Some label) error = IsUnknownEncoding label.now error ⊎ (error �
 abbrev pub refuses_label : Options → Bool
 refuses_label options = is_unknown_label (label_of options)
 
+-- some settings, with what options ask for of which lines a search selects
+abbrev pub with_selection : Options → Settings → Settings
+with_selection options settings = record settings {
+  line_terminator = terminator_of options;
+  invert_match = has options InvertMatch;
+  multi_line = has options Multiline;
+  stop_on_nonmatch = has options StopOnNonmatch;
+  max_matches = options.max_count;
+  binary_detection = detection_of options;
+}
+
 -- the settings of the searcher. What no option sets has its default
 abbrev pub asked_settings : Options → Settings
 asked_settings options = record default_settings {

@@ -30,6 +30,7 @@ use Rattle.linegrep_cli.specs.PathSeparators.{path_separator_of}
 use Rattle.linegrep_cli.specs.PatternOptions.{pattern_options, pattern_texts}
 use Rattle.linegrep_cli.specs.PrinterOptions.{IsPrinterOf}
 use Rattle.linegrep_cli.specs.PrintingEngines.{IsEngineStep}
+use Rattle.linegrep_cli.specs.Refusals.{IsCause, IsRefusedFor}
 use Rattle.linegrep_cli.specs.RunScopes.{IsScopeOf}
 use Rattle.linegrep_cli.specs.SearcherOptions.{searcher_settings}
 use Rattle.linegrep_cli.specs.SeparatorOptions.{AreLent}
@@ -167,3 +168,11 @@ module _ {S F R W X : Type 0} (message : AllocError → Option (List ℕ)) (worl
     pub sized : AreSized (pattern_options options patterns) (pattern_texts options patterns)
         (regex_programs regex)
     pub run : IsRunOf (naming_of regex) options regex input output errors ended
+
+  -- what a search does by its options and patterns: it is refused, maybe since there is no memory,
+  -- or it runs
+  abbrev pub IsSearchRun : Options → List (String Global) → R → W → X → Ended R W → X → Type 0
+  IsSearchRun options patterns input output errors ended errors' =
+      IsRefusedFor world.errors.step (IsCause (world.folders.facts system) options patterns)
+      input output errors ended errors'
+      ⊎ IsWholeRun options patterns input output errors ended

@@ -7,10 +7,10 @@ ghost use Rattle.grep_regex.specs.Sizes.{AreSized};
 ghost use Rattle.grep_regex.specs.Views.{IsNamed, regex_options, regex_patterns, regex_programs};
 ghost use Rattle.linegrep_cli.specs.PatternOptions.{pattern_options, pattern_texts};
 ghost use Rattle.linegrep_cli.specs.PreparedRuns.{IsPrepared};
-ghost use Rattle.linegrep_cli.specs.Refusals.{ArePatternsRefused, IsCause, IsRefusedFor};
+ghost use Rattle.linegrep_cli.specs.Refusals.{ArePatternsRefused, IsCause};
 ghost use Rattle.linegrep_cli.specs.Refusals.{IsRefusedWith, IsRefusedWithoutMemory};
 ghost use Rattle.linegrep_cli.specs.TemplateOptions.{IsTemplate};
-ghost use Rattle.linegrep_cli.specs.WholeRuns.{IsRunOf, IsRunWith, IsWholeRun};
+ghost use Rattle.linegrep_cli.specs.WholeRuns.{IsRunOf, IsRunWith, IsSearchRun};
 ghost use Rattle.linegrep_cli.specs.Worlds.{world_of};
 ghost use Rattle.linegrep_files.specs.Failures.{has_cause};
 
@@ -176,11 +176,9 @@ pub fn search_all<S: System, R: Source + Drop, W: Output + Drop, E: Output>(
     output: W,
     errors: &mut E,
 ) -> Ended<R, W>
-    ensures { IsRefusedFor E.step (IsCause (S.facts system.now) options.now patterns.now) input
-        output errors.old result errors.new
-        ⊎ IsWholeRun ⟦<AllocError as Display>⟧.output
+    ensures { IsSearchRun ⟦<AllocError as Display>⟧.output
         (world_of S.System.own S.Open S.Folders S.File.Read R.Source W.Output E.Output)
-        system.now options.now patterns.now input output errors.old result }
+        system.now options.now patterns.now input output errors.old result errors.new }
 {
     match prepare(rt, system, options, patterns) {
         Ok((regex, prepared)) => search_named::<Brand, S, R, W, E>(

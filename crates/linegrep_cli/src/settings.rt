@@ -1,20 +1,18 @@
 //! The searcher and the printer that the options ask for.
 ghost use Rattle.std.specs.Prelude.{◌≡◌, ◌⊎◌, [], false, true, if◌then◌else◌, IfErr, IfOk};
 ghost use Rattle.grep_output.specs.PendingTexts.{pending_bytes};
-ghost use Rattle.linegrep_cli.specs.OptionMeanings.{after_lines, before_lines, shows_columns};
-ghost use Rattle.linegrep_cli.specs.OptionMeanings.{shows_numbers};
+ghost use Rattle.linegrep_cli.specs.OptionMeanings.{after_lines, before_lines};
 ghost use Rattle.linegrep_cli.specs.OptionUses.{has};
 ghost use Rattle.linegrep_cli.specs.PrinterOptions.{IsNewRun, IsPrinterOf, IsReplacer};
 ghost use Rattle.linegrep_cli.specs.PrinterOptions.{column_limit};
 ghost use Rattle.linegrep_cli.specs.PrinterOptions.{line_settings};
 ghost use Rattle.linegrep_cli.specs.PrinterOptions.{path_terminator_of, separator_of};
 ghost use Rattle.linegrep_cli.specs.PrinterOptions.{shows_headings};
-ghost use Rattle.linegrep_cli.specs.PrinterOptions.{summary_settings};
-ghost use Rattle.linegrep_cli.specs.SearcherOptions.{IsLabelError, detection_of};
+ghost use Rattle.linegrep_cli.specs.PrinterOptions.{summary_settings, with_line_parts};
+ghost use Rattle.linegrep_cli.specs.SearcherOptions.{IsLabelError};
 ghost use Rattle.linegrep_cli.specs.SearcherOptions.{encoding_of_label, is_unknown_label, label_of};
 ghost use Rattle.linegrep_cli.specs.SearcherOptions.{looks_for_mark, refuses_label};
-ghost use Rattle.linegrep_cli.specs.SearcherOptions.{searcher_settings};
-ghost use Rattle.linegrep_cli.specs.SearcherOptions.{terminator_of};
+ghost use Rattle.linegrep_cli.specs.SearcherOptions.{searcher_settings, with_selection};
 ghost use Rattle.linegrep_files.specs.Failures.{has_cause};
 
 use crate::colors::color_specs;
@@ -73,14 +71,7 @@ fn try_searcher(alloc: Global, options: &Options<'_, '_>) -> Result<Searcher, Co
 
 // Sets which lines a search selects.
 fn select(builder: &mut SearcherBuilder, options: &Options<'_, '_>)
-    ensures { builder.new ≡ record builder.old {
-      line_terminator = terminator_of options.now;
-      invert_match = has options.now OptionId.InvertMatch;
-      multi_line = has options.now OptionId.Multiline;
-      stop_on_nonmatch = has options.now OptionId.StopOnNonmatch;
-      max_matches = options.now.max_count;
-      binary_detection = detection_of options.now;
-    } }
+    ensures { builder.new ≡ with_selection options.now builder.old }
 {
     builder
         .line_terminator(options.line_terminator())
@@ -253,14 +244,7 @@ fn lines<'c>(
 
 // Sets what is written of a line.
 fn show(builder: &mut StandardBuilder<'_>, options: &Options<'_, '_>)
-    ensures { builder.new ≡ record builder.old {
-      column = shows_columns options.now;
-      byte_offset = has options.now OptionId.ByteOffset;
-      only_matching = has options.now OptionId.OnlyMatching;
-      max_columns = column_limit options.now.max_columns;
-      max_columns_preview = has options.now OptionId.MaxColumnsPreview;
-      trim_ascii = has options.now OptionId.Trim;
-    } }
+    ensures { builder.new ≡ with_line_parts options.now builder.old }
 {
     builder
         .column(options.shows_columns())

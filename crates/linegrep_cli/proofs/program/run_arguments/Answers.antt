@@ -1,6 +1,6 @@
 use Rattle.linegrep_options.specs.ParsedWords.{refusal}
 use Rattle.linegrep_cli.specs.ConfigFiles.{of_refused_words}
-use Rattle.linegrep_cli.specs.ProgramRuns.{no_memory, of_fault}
+use Rattle.linegrep_cli.specs.ProgramRuns.{of_fault, without_memory}
 use Rattle.linegrep_cli.proofs.program.run_arguments.Goals as goal
 
 pub returns-in-Err-Words : goal.returns-in-Err-Words
@@ -11,4 +11,4 @@ returns-in-Err-Words g c =
     c.refused.ensures
 
 pub returns-in-Err-Memory : goal.returns-in-Err-Memory
-returns-in-Err-Memory g c = no_memory c.without_memory.ensures
+returns-in-Err-Memory g c = without_memory c.without_memory.ensures

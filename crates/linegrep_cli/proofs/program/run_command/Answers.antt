@@ -1,6 +1,6 @@
 use Rattle.std.proofs.Common.{◌∙◌, sym}
 use Rattle.linegrep_cli.specs.ConfigFiles.{of_command_line, of_no_file, of_unreadable}
-use Rattle.linegrep_cli.specs.ProgramRuns.{no_memory, of_parsed}
+use Rattle.linegrep_cli.specs.ProgramRuns.{of_parsed, without_memory}
 use Rattle.linegrep_cli.proofs.program.run_command.Goals as goal
 
 pub returns-then-skips_config : goal.returns-then-skips_config
@@ -27,7 +27,7 @@ returns-in-Ok-Unreadable g c = of_parsed c.args.arguments.now _ c.args.parsed.no
     c.requires c.run_parsed-in-Ok-Unreadable.ensures
 
 pub returns-in-Err : goal.returns-in-Err
-returns-in-Err g c = no_memory c.without_memory.ensures
+returns-in-Err g c = without_memory c.without_memory.ensures
 
 pub run_with_file-requires-clause-command : goal.run_with_file-requires-clause-command
 run_with_file-requires-clause-command g c = (

@@ -4,17 +4,17 @@ use Rattle.std.specs.Prelude.{String}
 use Rattle.linegrep_options.specs.declared.uses.Use.{Use}
 use Rattle.linegrep_cli.specs.OperandTexts.{operand_texts}
 use Rattle.linegrep_cli.specs.OptionValues.{AreLists}
-use Rattle.linegrep_cli.specs.ProgramRuns.{of_options, out_of_memory}
+use Rattle.linegrep_cli.specs.ProgramRuns.{of_options, without_memory}
 use Rattle.linegrep_cli.proofs.program.run_parsed.Goals as goal
 
 pub returns-in_default : goal.returns-in_default
-returns-in_default g c = out_of_memory c.without_memory.ensures
+returns-in_default g c = without_memory c.without_memory.ensures
 
 pub returns-in_default-texts_of : goal.returns-in_default-texts_of
-returns-in_default-texts_of g c = out_of_memory c.without_memory-in_default-texts_of.ensures
+returns-in_default-texts_of g c = without_memory c.without_memory-in_default-texts_of.ensures
 
 pub returns-in_default-read : goal.returns-in_default-read
-returns-in_default-read g c = out_of_memory c.without_memory-in_default-read.ensures
+returns-in_default-read g c = without_memory c.without_memory-in_default-read.ensures
 
 pub returns : goal.returns
 returns g c =

@@ -2,11 +2,11 @@ use Rattle.std.proofs.Common.{◌∙◌, ◌++◌, ap}
 use Rattle.linegrep_options.specs.ParsedWords.{refusal, texts}
 use Rattle.linegrep_cli.specs.ConfigFiles.{of_file}
 use Rattle.linegrep_cli.specs.ConfigWords.{config_words}
-use Rattle.linegrep_cli.specs.ProgramRuns.{no_memory, of_fault, of_parsed}
+use Rattle.linegrep_cli.specs.ProgramRuns.{of_fault, of_parsed, without_memory}
 use Rattle.linegrep_cli.proofs.program.run_with_file.Goals as goal
 
 pub returns-in_default : goal.returns-in_default
-returns-in_default g c = no_memory c.without_memory.ensures
+returns-in_default g c = without_memory c.without_memory.ensures
 
 pub returns-in-Ok-parse : goal.returns-in-Ok-parse
 returns-in-Ok-parse g c = of_parsed c.deref-2.result.now c.args.errors.now c.in-Ok-parse.parsed
@@ -25,4 +25,4 @@ returns-in-Err-Words g c =
     c.refused.ensures
 
 pub returns : goal.returns
-returns g c = no_memory c.without_memory-in-Err-Memory.ensures
+returns g c = without_memory c.without_memory-in-Err-Memory.ensures
