@@ -42,11 +42,11 @@ bare_texts terminator [] = []
 bare_texts terminator (planned ∷ later) =
     bare_text terminator planned.call ++ bare_texts terminator later
 
--- what is kept is written and a text behind it, and what is returned says whether the text has any
+-- what is kept is written and a text after it, and what is returned says whether the text has any
 -- bytes
-abbrev pub WritesBehind : {W : Type 0} → (W → OutputCall → W → Type 0) → W → List ℕ → List ℕ
+abbrev pub WritesAfter : {W : Type 0} → (W → OutputCall → W → Type 0) → W → List ℕ → List ℕ
     → Result Bool Error → W → Type 0
-WritesBehind write_step writer kept text result writer' =
+WritesAfter write_step writer kept text result writer' =
     MatchResult result
     (λ has_text. (has_text ≡ is_text text)
     × Writes write_step writer (kept ++ text) (Ok tt) writer')

@@ -10,7 +10,7 @@ ghost use Rattle.grep_report.specs.SinkReports.{match_bytes};
 ghost use Rattle.grep_searcher.specs.Plans.{reported_bytes};
 ghost use Rattle.grep_searcher.specs.SearchErrors.{IsOutOfMemory};
 ghost use Rattle.grep_searcher.specs.SinkArguments.{context_call, match_call};
-ghost use Rattle.grep_printer.specs.BareTexts.{WritesBehind, bare_text};
+ghost use Rattle.grep_printer.specs.BareTexts.{WritesAfter, bare_text};
 ghost use Rattle.grep_printer.specs.CallParts.{FailsAtParts, has_match};
 ghost use Rattle.grep_printer.specs.Formats.{is_text};
 ghost use Rattle.grep_printer.specs.Hyperlinks.{unlinked};
@@ -275,7 +275,7 @@ impl<F> Printer<F> {
         terminator: u8,
         event: &Event<'_>,
     ) -> io::Result<bool>
-        ensures written { WritesBehind W.step writer.old (pending_bytes self.old.pending)
+        ensures written { WritesAfter W.step writer.old (pending_bytes self.old.pending)
             (bare_text terminator (event_call event.now)) result writer.new }
         ensures emptied { pending_bytes self.new.pending ≡ [] }
         ensures format { self.new.format ≡ self.old.format }

@@ -18,7 +18,7 @@ returns-in-Some-clause-step g c =
     let old = c.args.self.now in
     let mid = c.if-asks.self in
     let same : IsPreparing old mid = elim c.if-asks.branch [
-      then-asks+in_default+else-len-gt-MANY_PARTS w ↦ rw w.self-is w.find_parts.ensures.same
+      | then-asks+in_default+else-len-gt-MANY_PARTS w ↦ rw w.self-is w.find_parts.ensures.same
       | else-asks w ↦ rw w.self-is w.clear_parts.ensures.same
     ] in
     printed-from g.F.Format.rules g.M.Error.Display.output g.M.Matcher.facts g.M.FindAt.first_at g.W.Output.step
@@ -31,7 +31,7 @@ returns-clause-step g c =
     let mid = c.if-asks.self in
     let now = c.keep_call.new.self in
     let same : IsPreparing old mid = elim c.if-asks.branch [
-      then-asks+in_default+else-len-gt-MANY_PARTS w ↦ rw w.self-is w.find_parts.ensures.same
+      | then-asks+in_default+else-len-gt-MANY_PARTS w ↦ rw w.self-is w.find_parts.ensures.same
       | else-asks w ↦ rw w.self-is w.clear_parts.ensures.same
     ] in
     printed-from g.F.Format.rules g.M.Error.Display.output g.M.Matcher.facts g.M.FindAt.first_at g.W.Output.step
