@@ -1,11 +1,10 @@
 //! Which lines match.
-ghost use Rattle.std.specs.Prelude.{◌≡◌, ◌++◌, map, true, IfOk, OnOk};
-ghost use Rattle.grep_searcher.specs.HitLines.{is_hit, IsUnlimited};
+ghost use Rattle.std.specs.Prelude.{◌≡◌, ◌++◌, true, IfOk, OnOk};
+ghost use Rattle.grep_searcher.specs.HitLines.{IsUnlimited};
 ghost use Rattle.grep_searcher.specs.LineCounts.{IsLineSearch};
-ghost use Rattle.grep_searcher.specs.Lines.{byte_of, lines};
 ghost use Rattle.grep_searcher.specs.PassedCalls.{passed_call};
 ghost use Rattle.grep_searcher.specs.Searches.{searched_bytes};
-ghost use Rattle.uses.specs.LineFlags.{flag_of};
+ghost use Rattle.uses.specs.LineFlags.{flag_of, line_flags};
 
 use grep_searcher::laws::{calls_are_passed, lines_are_passed, searches_run};
 use grep_searcher::sinks::{Calls, SinkCall};
@@ -29,10 +28,8 @@ pub fn flag_lines<M: Matcher + Drop>(
 ) -> Result<Vec<bool>, SearchError>
     ensures flags { IsLineSearch (M.facts matcher) searcher.old.settings
         → searcher.old.settings.passthru ≡ true → IsUnlimited searcher.old.settings
-        → IfOk result (λ flags. flags.items
-        ≡ map (is_hit searcher.old.settings (M.facts matcher).meaning)
-        (lines (byte_of searcher.old.settings.line_terminator)
-        (searched_bytes searcher.old.settings bytes.now))) }
+        → IfOk result (λ flags. flags.items ≡ line_flags searcher.old.settings
+        (M.facts matcher).meaning (searched_bytes searcher.old.settings bytes.now)) }
     ensures settings { searcher.new.settings ≡ searcher.old.settings }
     ensures buffers { searcher.old.has_buffers ≡ true → searcher.new.has_buffers ≡ true }
 {
