@@ -1,4 +1,5 @@
 pub mod FoundPartLemmas
 pub mod ReplaceLemmas
+pub mod StartLemmas
 pub mod SuccessiveLemmas
 pub mod TemplateLemmas

@@ -1,5 +1,6 @@
 //! Bytes in which all matches are replaced.
 ghost use Rattle.std.specs.Prelude.{◌≡◌, ◌++◌, ◌+◌, IfOk, IfSome, OnOk, length};
+ghost use Rattle.std.specs.Io.{StartsWith};
 ghost use Rattle.grep_replace.specs.Groups.{LieWithin};
 ghost use Rattle.grep_replace.specs.MatchedParts.{LiesFrom, found_from};
 ghost use Rattle.grep_replace.specs.ReplacedBytes.{all_replaced, replaced_lines};
@@ -17,16 +18,18 @@ use std::alloc::AllocError;
 /// a limit past the end: an empty match at the very end is replaced too, and an empty match right
 /// where the one before ended isn't. There is one search for each match.
 ///
-/// The only error is being out of memory. After it, some of the text may have been pushed.
+/// The only error is being out of memory. After it, some of the text may have been pushed. What was
+/// in `text` before is still at its start.
 pub fn replace_all<M: CapturesAt>(
     text: &mut Vec<u8>,
     matcher: &M,
     template: &Template,
     bytes: &[u8],
 ) -> Result<(), AllocError>
-    ensures { OnOk result (text.new.items ≡ text.old.items
+    ensures text { OnOk result (text.new.items ≡ text.old.items
         ++ all_replaced template.now (M.first_at matcher.now) (M.groups_at matcher.now)
         bytes.now) }
+    ensures kept { StartsWith text.new.items text.old.items }
 {
     let mut groups = Vec::new(*text.allocator());
     push_replaced(text, &mut groups, matcher, template, bytes)
@@ -40,7 +43,8 @@ pub fn replace_all<M: CapturesAt>(
 /// feed, and a carriage return before it belongs to the terminator. A line feed without one is then
 /// searched as part of its line.
 ///
-/// The only error is being out of memory. After it, some of the text may have been pushed.
+/// The only error is being out of memory. After it, some of the text may have been pushed. What was
+/// in `text` before is still at its start.
 pub fn replace_lines<M: CapturesAt>(
     text: &mut Vec<u8>,
     matcher: &M,
@@ -48,9 +52,10 @@ pub fn replace_lines<M: CapturesAt>(
     bytes: &[u8],
     terminator: LineTerminator,
 ) -> Result<(), AllocError>
-    ensures { OnOk result (text.new.items ≡ text.old.items
+    ensures text { OnOk result (text.new.items ≡ text.old.items
         ++ replaced_lines template.now (M.first_at matcher.now) (M.groups_at matcher.now)
         terminator bytes.now) }
+    ensures kept { StartsWith text.new.items text.old.items }
 {
     let mut groups = Vec::new(*text.allocator());
     for line in LineIter::new(terminator.as_byte(), bytes) {
@@ -70,9 +75,10 @@ fn push_replaced<M: CapturesAt>(
     template: &Template,
     bytes: &[u8],
 ) -> Result<(), AllocError>
-    ensures { OnOk result (text.new.items ≡ text.old.items
+    ensures text { OnOk result (text.new.items ≡ text.old.items
         ++ all_replaced template.now (M.first_at matcher.now) (M.groups_at matcher.now)
         bytes.now) }
+    ensures kept { StartsWith text.new.items text.old.items }
 {
     let mut position = 0;
     let mut end = None;

@@ -2,6 +2,7 @@
 ghost use Rattle.std.specs.Prelude.{◌≡◌, ◌+◌, ◌-◌, ◌<◌, ◌≤◌, ◌==◌, ◌++◌, ◌∷◌, []};
 ghost use Rattle.std.specs.Prelude.{length, drop, slice_index, ◌↔◌, IfOk, IfSome, IsTrue, OnOk};
 ghost use Rattle.std.specs.Prelude.{Some, option_map, string_bytes};
+ghost use Rattle.std.specs.Io.{StartsWith};
 ghost use Rattle.std.specs.List.{prefix_len};
 ghost use Rattle.regex.specs.Names.{IsIndexOf, names_of};
 ghost use Rattle.regex.specs.Templates.{group_called, is_name_byte};
@@ -51,8 +52,11 @@ impl Template {
         }
     }
 
-    /// Pushes what the template writes in place of a match, by its groups in a haystack. The only
-    /// error is being out of memory. The caller ensures that the groups lie in the haystack.
+    /// Pushes what the template writes in place of a match, by its groups in a haystack. The caller
+    /// ensures that the groups lie in the haystack.
+    ///
+    /// The only error is being out of memory. After it, some of the text may have been pushed. What
+    /// was in `bytes` before is still at its start.
     pub fn push_to(
         &self,
         bytes: &mut Vec<u8>,
@@ -60,8 +64,9 @@ impl Template {
         groups: &[Option<Match>],
     ) -> Result<(), AllocError>
         requires { LieWithin (length haystack.now) groups.now }
-        ensures { OnOk result (bytes.new.items ≡ bytes.old.items
+        ensures text { OnOk result (bytes.new.items ≡ bytes.old.items
             ++ template_text self.now (group_text haystack.now groups.now)) }
+        ensures kept { StartsWith bytes.new.items bytes.old.items }
     {
         for piece in &self.pieces {
             bytes.extend_from_slice(piece.text(haystack, groups))?;

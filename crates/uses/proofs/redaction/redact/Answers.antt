@@ -11,6 +11,6 @@ returns g c =
     let bytes = c.args.bytes.now in
     let groups_at = g.M.CapturesAt.groups_at c.args.matcher.now bytes in
     let parts = all_parts (g.M.FindAt.first_at c.args.matcher.now bytes) (length bytes) in
-    (rw c.new-redacted.ensures.items at c.in_ok-replace_all.ensures)
+    (rw c.new-redacted.ensures.items at c.in_ok-replace_all.ensures.text)
     ∙ ap (λ text_at. replaced_bytes text_at bytes 0 parts)
     (fun_ext (λ position. c.in_ok-template.ensures (group_text bytes (groups_at position))))
