@@ -18,6 +18,7 @@ pub fn first_matches(
     let matcher = regex.matcher(alloc)?;
     let mut matches = Vec::new(alloc);
     let mut sink = UTF8(|number, line: &str| {
+        let line = line.strip_suffix('\n').unwrap_or(line);
         if let Some(found) = matcher.find(line.as_bytes())? {
             if let Some(text) = line.get(found.range()) {
                 matches.push((number, String::from_str(alloc, text)?))?;

@@ -40,10 +40,11 @@ fn is_line(line: &(u64, String), number: u64, text: &str) -> bool {
 }
 
 fn finds_first(alloc: Global) -> io::Result<bool> {
-    let matches = first_matches(alloc, r"water the \w+", GARDEN)?;
+    let matches = first_matches(alloc, r"water the \w+|can\.$", GARDEN)?;
     Ok(match matches.as_slice() {
-        [first, second] => is_line(first, 1, "water the ferns")
-            && is_line(second, 3, "water the ferns"),
+        [first, second, third] => is_line(first, 1, "water the ferns")
+            && is_line(second, 2, "can.")
+            && is_line(third, 3, "water the ferns"),
         _ => false,
     })
 }
