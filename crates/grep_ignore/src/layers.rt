@@ -31,7 +31,6 @@ pub enum Origin {
 }
 
 /// The rules of a file.
-#[derive(Drop)]
 pub struct Layer {
     /// The path of the file.
     pub file: String,
@@ -43,6 +42,19 @@ pub struct Layer {
     pub start: usize,
     /// The rules.
     pub rules: Rules,
+}
+
+// Written out, so that a caller's proof sees one call.
+impl Drop for Layer {
+    fn drop(self) {
+        let Layer {
+            file: _file,
+            origin: _origin,
+            depth: _depth,
+            start: _start,
+            rules: _rules,
+        } = self;
+    }
 }
 
 /// The rule that decides of a path.

@@ -7,13 +7,23 @@ use std::alloc::{AllocError, Global};
 use std::marker::Model;
 
 /// Numbers in a row.
-#[derive(Drop)]
 pub struct Numbers {
     numbers: Vec<u64>,
     // For each, how many there are up to the last one before it with the same low bits.
     before: Vec<usize>,
     // By low bits, how many there are up to the last that has them.
     last: Vec<usize>,
+}
+
+// Written out, so that a caller's proof sees one call.
+impl Drop for Numbers {
+    fn drop(self) {
+        let Numbers {
+            numbers: _numbers,
+            before: _before,
+            last: _last,
+        } = self;
+    }
 }
 
 impl Model for Numbers {

@@ -39,7 +39,6 @@ pub trait PathTest {
 }
 
 /// Values that are about paths, in order.
-#[derive(Drop)]
 pub struct PathTests<T: PathTest> {
     items: Vec<T>,
     // For each the number of its ending, or if that is empty of its start.
@@ -48,6 +47,18 @@ pub struct PathTests<T: PathTest> {
     has_starts: bool,
     // How many bytes such a text has at most.
     longest: usize,
+}
+
+// Written out, so that a caller's proof sees one call.
+impl<T: PathTest + Drop> Drop for PathTests<T> {
+    fn drop(self) {
+        let PathTests {
+            items: _items,
+            numbers: _numbers,
+            has_starts: _has_starts,
+            longest: _longest,
+        } = self;
+    }
 }
 
 impl<T: PathTest> Model for PathTests<T> {

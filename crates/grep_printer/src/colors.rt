@@ -15,7 +15,7 @@ use grep_searcher::Match;
 const RESET: &str = "\x1b[0m";
 
 /// The escapes before what a printer writes, in place of ripgrep's.
-#[derive(Debug, Drop)]
+#[derive(Debug)]
 pub struct ColorTexts {
     /// Before a path.
     pub path: String,
@@ -27,6 +27,19 @@ pub struct ColorTexts {
     pub matched: Option<String>,
     /// Before a line that matches, and again after what matches in it, if it has a color.
     pub highlight: Option<String>,
+}
+
+// Written out, so that a caller's proof sees one call.
+impl Drop for ColorTexts {
+    fn drop(self) {
+        let ColorTexts {
+            path: _path,
+            line: _line,
+            column: _column,
+            matched: _matched,
+            highlight: _highlight,
+        } = self;
+    }
 }
 
 /// The colors of what a printer writes: the escape before it, if it has one. After it comes the

@@ -13,7 +13,6 @@ use grep_output::Pending;
 use itoa::write_digits;
 
 /// What `{host}` and `{wslprefix}` stand for in a format of links.
-#[derive(Drop)]
 pub struct HyperlinkEnvironment {
     /// The name of the machine.
     pub host: String,
@@ -21,13 +20,32 @@ pub struct HyperlinkEnvironment {
     pub wsl_prefix: String,
 }
 
+// Written out, so that a caller's proof sees one call.
+impl Drop for HyperlinkEnvironment {
+    fn drop(self) {
+        let HyperlinkEnvironment {
+            host: _host,
+            wsl_prefix: _wsl_prefix,
+        } = self;
+    }
+}
+
 /// How links are written.
-#[derive(Drop)]
 pub struct HyperlinkConfig {
     /// Their format.
     pub format: HyperlinkFormat,
     /// What it names of the environment.
     pub environment: HyperlinkEnvironment,
+}
+
+// Written out, so that a caller's proof sees one call.
+impl Drop for HyperlinkConfig {
+    fn drop(self) {
+        let HyperlinkConfig {
+            format: _format,
+            environment: _environment,
+        } = self;
+    }
 }
 
 /// A link to a file.

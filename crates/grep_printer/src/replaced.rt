@@ -26,10 +26,19 @@ pub struct Replacement<'t, 'r, M> {
 }
 
 // Bytes in which parts are replaced, and where the texts are that replaced them.
-#[derive(Drop)]
 pub struct Replaced {
     pub(crate) bytes: Vec<u8>,
     pub(crate) parts: Vec<Match>,
+}
+
+// Written out, so that a caller's proof sees one call.
+impl Drop for Replaced {
+    fn drop(self) {
+        let Replaced {
+            bytes: _bytes,
+            parts: _parts,
+        } = self;
+    }
 }
 
 impl<'t, 'r, M: CapturesAt + Copy> Replacement<'t, 'r, M> {

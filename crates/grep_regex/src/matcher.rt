@@ -16,11 +16,21 @@ use std::cell::RefCell;
 ///
 /// The only error is being out of memory for new engines. They are made only for a call within
 /// another call of the same matcher; no contract says so.
-#[derive(Drop)]
 pub struct RegexMatcher<'r> {
     alloc: Global,
     shortcut: Shortcut<'r>,
     engine: RefCell<Engine<'r>>,
+}
+
+// Written out, so that a caller's proof sees one call.
+impl<'r> Drop for RegexMatcher<'r> {
+    fn drop(self) {
+        let RegexMatcher {
+            alloc: _alloc,
+            shortcut: _shortcut,
+            engine: _engine,
+        } = self;
+    }
 }
 
 impl Regex {

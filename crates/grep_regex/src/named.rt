@@ -70,12 +70,22 @@ impl<'r, N: Naming> Finder for NamedEngine<'r, N> {
 
 /// The matcher of a named expression. It does what a `RegexMatcher` does, and compares no texts:
 /// what is in its cell is of the expression's name.
-#[derive(Drop)]
 pub struct NamedMatcher<'r, N: Naming> {
     alloc: Global,
     shortcut: Shortcut<'r>,
     engine: RefCell<NamedEngine<'r, N>>,
     ghost named: { IsNamed N.options N.patterns shortcut.regex.now },
+}
+
+// Written out, so that a caller's proof sees one call.
+impl<'r, N: Naming> Drop for NamedMatcher<'r, N> {
+    fn drop(self) {
+        let NamedMatcher {
+            alloc: _alloc,
+            shortcut: _shortcut,
+            engine: _engine,
+        } = self;
+    }
 }
 
 impl Regex {

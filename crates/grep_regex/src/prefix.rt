@@ -27,7 +27,6 @@ use std::simd::prelude::*;
 
 // Sequences of sets of bytes with one of which a match begins. If there is one, three of its sets
 // that are rare in text are tables; if there are several, their first sets are in buckets.
-#[derive(Drop)]
 pub(crate) struct Prefix {
     pub(crate) choices: Vec<Vec<ByteSet>>,
     // Whether a match is a byte of each set of a sequence, and nothing else.
@@ -60,6 +59,25 @@ pub(crate) struct Prefix {
         buckets.second.high },
     ghost third_in_buckets: { AreInBuckets (items_of choices.items) 2 buckets.third.low
         buckets.third.high },
+}
+
+// Written out, so that a caller's proof sees one call.
+impl Drop for Prefix {
+    fn drop(self) {
+        let Prefix {
+            choices: _choices,
+            has_sizes: _has_sizes,
+            cover: _cover,
+            is_frequent: _is_frequent,
+            lead: _lead,
+            first: _first,
+            second: _second,
+            third: _third,
+            folds: _folds,
+            has_folds: _has_folds,
+            buckets: _buckets,
+        } = self;
+    }
 }
 
 impl Prefix {

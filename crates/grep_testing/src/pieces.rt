@@ -8,12 +8,23 @@ use std::marker::Model;
 
 /// A reader of a slice, which gives a piece of it at a read. It counts its reads, and one of them
 /// may fail.
-#[derive(Drop)]
 pub struct Pieces<'a> {
     bytes: &'a [u8],
     piece: usize,
     reads: u64,
     fault: Option<(u64, io::Error)>,
+}
+
+// Written out, so that a caller's proof sees one call.
+impl<'a> Drop for Pieces<'a> {
+    fn drop(self) {
+        let Pieces {
+            bytes: _bytes,
+            piece: _piece,
+            reads: _reads,
+            fault: _fault,
+        } = self;
+    }
 }
 
 impl<'a> Model for Pieces<'a> {

@@ -70,7 +70,6 @@ pub trait Engine<F> {
 }
 
 /// The engine of a searcher, a matcher and a printer, over standard input and standard error.
-#[derive(Drop)]
 pub struct PrintingEngine<'e, S, F, M, R, W, E> {
     rt: &'e HostRuntime,
     searcher: Searcher,
@@ -87,6 +86,25 @@ pub struct PrintingEngine<'e, S, F, M, R, W, E> {
     system: &'e S,
     // What the searcher did at first about binary files.
     detection: BinaryDetection,
+}
+
+// Written out, so that a caller's proof sees one call.
+impl<'e, S, F: Drop, M: Drop, R: Drop, W: Drop, E> Drop for PrintingEngine<'e, S, F, M, R, W, E> {
+    fn drop(self) {
+        let PrintingEngine {
+            rt: _rt,
+            searcher: _searcher,
+            matcher: _matcher,
+            printer: _printer,
+            writer: _writer,
+            haystack: _haystack,
+            errors: _errors,
+            path_separator: _path_separator,
+            hyperlinks: _hyperlinks,
+            system: _system,
+            detection: _detection,
+        } = self;
+    }
 }
 
 impl<'e, S, F, M, R, W, E> PrintingEngine<'e, S, F, M, R, W, E> {

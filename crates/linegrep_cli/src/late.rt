@@ -35,7 +35,6 @@ pub struct Waiting {
 }
 
 /// An engine that searches nothing. It keeps what is to be searched, and what is to be said.
-#[derive(Drop)]
 pub struct Collector {
     alloc: Global,
     // What was found, in the order in which it was found.
@@ -46,6 +45,19 @@ pub struct Collector {
     quits: bool,
     // Whether something was found for which there was no memory.
     is_full: bool,
+}
+
+// Written out, so that a caller's proof sees one call.
+impl Drop for Collector {
+    fn drop(self) {
+        let Collector {
+            alloc: _alloc,
+            found: _found,
+            texts: _texts,
+            quits: _quits,
+            is_full: _is_full,
+        } = self;
+    }
 }
 
 impl Collector {

@@ -30,7 +30,6 @@ use std::io;
 
 /// An engine that searches nothing. It writes the path of each file that is listed, or no path if
 /// the options ask for a status alone.
-#[derive(Drop)]
 pub struct Lister<'e, S, W, E> {
     rt: &'e HostRuntime,
     system: &'e S,
@@ -43,6 +42,22 @@ pub struct Lister<'e, S, W, E> {
     path_separator: Option<u8>,
     // How links to files are written, if they are.
     hyperlinks: Option<&'e HyperlinkConfig>,
+}
+
+// Written out, so that a caller's proof sees one call.
+impl<'e, S, W: Drop, E> Drop for Lister<'e, S, W, E> {
+    fn drop(self) {
+        let Lister {
+            rt: _rt,
+            system: _system,
+            printer: _printer,
+            is_quiet: _is_quiet,
+            writer: _writer,
+            errors: _errors,
+            path_separator: _path_separator,
+            hyperlinks: _hyperlinks,
+        } = self;
+    }
 }
 
 impl<'e, S, W, E> Lister<'e, S, W, E> {

@@ -7,7 +7,6 @@ use linegrep_options::{OptionId, Use, places_of, values_of};
 use std::alloc::{AllocError, Global};
 
 /// The values of options that may be given several times, and the operands, each in order.
-#[derive(Drop)]
 pub struct Lists<'w> {
     /// The operands as texts.
     pub operands: Vec<&'w str>,
@@ -29,11 +28,39 @@ pub struct Lists<'w> {
     types_cleared: Listed<'w>,
 }
 
+// Written out, so that a caller's proof sees one call.
+impl<'w> Drop for Lists<'w> {
+    fn drop(self) {
+        let Lists {
+            operands: _operands,
+            pattern_files: _pattern_files,
+            colors: _colors,
+            globs: _globs,
+            iglobs: _iglobs,
+            ignore_files: _ignore_files,
+            unrestricted: _unrestricted,
+            types: _types,
+            types_not: _types_not,
+            types_added: _types_added,
+            types_cleared: _types_cleared,
+        } = self;
+    }
+}
+
 // The values of an option, and the place of each among the uses.
-#[derive(Drop)]
 struct Listed<'w> {
     texts: Vec<&'w str>,
     places: Vec<usize>,
+}
+
+// Written out, so that a caller's proof sees one call.
+impl<'w> Drop for Listed<'w> {
+    fn drop(self) {
+        let Listed {
+            texts: _texts,
+            places: _places,
+        } = self;
+    }
 }
 
 impl<'w> Lists<'w> {

@@ -16,7 +16,6 @@ use grep_searcher::{SearchError, Searcher, Source};
 use std::io;
 
 /// What writes what searches find.
-#[derive(Drop)]
 pub enum Printer<'c, M> {
     /// Writes lines.
     Lines(CountedRun<StandardFormat<'c>>),
@@ -30,6 +29,20 @@ pub enum Printer<'c, M> {
     Summary(CountedRun<SummaryFormat<'c>>),
     /// Writes messages in JSON, with what each match would be replaced by if there is a template.
     Json(JsonRun<Option<TemplateReplacer<'c, M>>>),
+}
+
+// Written out, so that a caller's proof sees one call.
+impl<'c, M: Drop> Drop for Printer<'c, M> {
+    fn drop(self) {
+        match self {
+            Printer::Lines(_run) => {}
+            Printer::Parts(_run) => {}
+            Printer::ReplacedLines(_run) => {}
+            Printer::ReplacedParts(_run) => {}
+            Printer::Summary(_run) => {}
+            Printer::Json(_run) => {}
+        }
+    }
 }
 
 impl<'c, M: CapturesAt + Copy> Printer<'c, M> {

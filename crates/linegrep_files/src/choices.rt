@@ -24,7 +24,6 @@ use grep_ignore::Decider;
 use std::alloc::{AllocError, Global};
 
 /// What globs, ignore files, types and names say.
-#[derive(Drop)]
 pub struct Choices<'r> {
     globs: Globs,
     ignores: Ignores<'r>,
@@ -35,6 +34,21 @@ pub struct Choices<'r> {
     notes: Option<Vec<Note>>,
     // Room to work in.
     row: Vec<bool>,
+}
+
+// Written out, so that a caller's proof sees one call.
+impl<'r> Drop for Choices<'r> {
+    fn drop(self) {
+        let Choices {
+            globs: _globs,
+            ignores: _ignores,
+            types: _types,
+            limits: _limits,
+            shows_hidden: _shows_hidden,
+            notes: _notes,
+            row: _row,
+        } = self;
+    }
 }
 
 impl<'r> Choices<'r> {

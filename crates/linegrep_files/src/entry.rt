@@ -5,7 +5,6 @@ ghost use Rattle.linegrep_files.specs.Folders.{is_folder, path_of};
 use std::io;
 
 /// What is found in folders.
-#[derive(Drop)]
 pub enum Entry {
     /// A file, by its path.
     File(String),
@@ -13,6 +12,17 @@ pub enum Entry {
     Folder(String),
     /// What can't be read: its path, as a word that `escape` writes, and why.
     Unread(String, io::Error),
+}
+
+// Written out, so that a caller's proof sees one call.
+impl Drop for Entry {
+    fn drop(self) {
+        match self {
+            Entry::File(_path) => {}
+            Entry::Folder(_path) => {}
+            Entry::Unread(_path, _error) => {}
+        }
+    }
 }
 
 impl Entry {

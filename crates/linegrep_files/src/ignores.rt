@@ -114,7 +114,6 @@ fn both(one: bool, other: bool) -> bool
 }
 
 /// The ignore files that count in a folder.
-#[derive(Drop)]
 pub struct Ignores<'r> {
     rt: &'r HostRuntime,
     sources: Sources,
@@ -133,6 +132,24 @@ pub struct Ignores<'r> {
     row: Vec<bool>,
     // What is wrong with files, as lines for standard error.
     warnings: Vec<Failure>,
+}
+
+// Written out, so that a caller's proof sees one call.
+impl<'r> Drop for Ignores<'r> {
+    fn drop(self) {
+        let Ignores {
+            rt: _rt,
+            sources: _sources,
+            has_named: _has_named,
+            layers: _layers,
+            repositories: _repositories,
+            path: _path,
+            root: _root,
+            start: _start,
+            row: _row,
+            warnings: _warnings,
+        } = self;
+    }
 }
 
 impl<'r> Ignores<'r> {

@@ -27,7 +27,6 @@ pub enum Reason {
 }
 
 /// Something that isn't visited, and why.
-#[derive(Drop)]
 pub struct Note {
     /// Its path, as a word that `escape` writes.
     pub path: String,
@@ -35,6 +34,17 @@ pub struct Note {
     pub reason: Reason,
     /// The path of the ignore file, if a rule leaves it out.
     pub file: Option<String>,
+}
+
+// Written out, so that a caller's proof sees one call.
+impl Drop for Note {
+    fn drop(self) {
+        let Note {
+            path: _path,
+            reason: _reason,
+            file: _file,
+        } = self;
+    }
 }
 
 impl Note {

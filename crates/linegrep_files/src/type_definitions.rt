@@ -25,12 +25,21 @@ use std::alloc::{AllocError, AllocFailed, Global};
 use std::cmp::Ordering;
 
 /// The types that are known, and those that are selected.
-#[derive(Drop)]
 pub struct KnownTypes<'t> {
     /// Their definitions.
     pub definitions: Vec<Definition<'t>>,
     /// What is selected of them, in order.
     pub selections: Vec<Selection<'t>>,
+}
+
+// Written out, so that a caller's proof sees one call.
+impl<'t> Drop for KnownTypes<'t> {
+    fn drop(self) {
+        let KnownTypes {
+            definitions: _definitions,
+            selections: _selections,
+        } = self;
+    }
 }
 
 /// What a type is called, and one of its globs.

@@ -27,13 +27,24 @@ pub struct Route {
 
 /// A walk through a folder and the folders in it, which finds the regular files that are chosen, in
 /// the order of names. It ends early if it is out of memory.
-#[derive(Drop)]
 pub struct Walk<'r, S> {
     rt: &'r HostRuntime,
     finder: Finder<'r, S>,
     // What is still to be visited. What is visited next comes last.
     pending: Vec<Entry>,
     is_out_of_memory: bool,
+}
+
+// Written out, so that a caller's proof sees one call.
+impl<'r, S> Drop for Walk<'r, S> {
+    fn drop(self) {
+        let Walk {
+            rt: _rt,
+            finder: _finder,
+            pending: _pending,
+            is_out_of_memory: _is_out_of_memory,
+        } = self;
+    }
 }
 
 impl<'r, S: Folders> Walk<'r, S> {

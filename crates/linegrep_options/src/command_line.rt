@@ -23,12 +23,21 @@ use std::alloc::{AllocError, Global};
 use std::str;
 
 /// What some words say.
-#[derive(Drop)]
 pub struct Parsed<'w> {
     /// The uses of options, in their order.
     pub uses: Vec<Use<'w>>,
     /// The words that belong to no option, in their order.
     pub operands: Vec<&'w [u8]>,
+}
+
+// Written out, so that a caller's proof sees one call.
+impl<'w> Drop for Parsed<'w> {
+    fn drop(self) {
+        let Parsed {
+            uses: _uses,
+            operands: _operands,
+        } = self;
+    }
 }
 
 /// Why words aren't a command line.

@@ -137,7 +137,6 @@ pub(crate) struct Way {
 }
 
 /// What a case says beside its input and its literals.
-#[derive(Drop)]
 pub(crate) struct Options {
     /// Which matcher searches.
     pub(crate) pattern: Pattern,
@@ -165,8 +164,27 @@ pub(crate) struct Options {
     is_labelled: bool,
 }
 
+// Written out, so that a caller's proof sees one call.
+impl Drop for Options {
+    fn drop(self) {
+        let Options {
+            pattern: _pattern,
+            names: _names,
+            way: _way,
+            debug: _debug,
+            times: _times,
+            error_at: _error_at,
+            false_at: _false_at,
+            fail_at: _fail_at,
+            settings: _settings,
+            expression: _expression,
+            ends_lines: _ends_lines,
+            is_labelled: _is_labelled,
+        } = self;
+    }
+}
+
 /// A search that is to be made.
-#[derive(Drop)]
 pub(crate) struct Case {
     /// What is searched.
     pub(crate) input: Vec<u8>,
@@ -176,6 +194,18 @@ pub(crate) struct Case {
     pub(crate) other: Vec<u8>,
     /// The rest.
     pub(crate) options: Options,
+}
+
+// Written out, so that a caller's proof sees one call.
+impl Drop for Case {
+    fn drop(self) {
+        let Case {
+            input: _input,
+            literal: _literal,
+            other: _other,
+            options: _options,
+        } = self;
+    }
 }
 
 impl Case {
@@ -265,7 +295,6 @@ impl Case {
 }
 
 // The fields of a case that were read so far.
-#[derive(Drop)]
 struct Fields {
     input: Option<Vec<u8>>,
     head: Vec<u8>,
@@ -273,6 +302,20 @@ struct Fields {
     literal: Option<Vec<u8>>,
     other: Vec<u8>,
     options: Options,
+}
+
+// Written out, so that a caller's proof sees one call.
+impl Drop for Fields {
+    fn drop(self) {
+        let Fields {
+            input: _input,
+            head: _head,
+            tail: _tail,
+            literal: _literal,
+            other: _other,
+            options: _options,
+        } = self;
+    }
 }
 
 impl Fields {

@@ -19,7 +19,6 @@ pub enum Kind {
 }
 
 /// A search, and how it is written.
-#[derive(Drop)]
 pub struct Row<'r> {
     /// What writes it.
     pub kind: Kind,
@@ -39,6 +38,23 @@ pub struct Row<'r> {
     pub summary: SummaryBuilder<'r>,
     /// The settings of the printer of JSON.
     pub json: JsonBuilder,
+}
+
+// Written out, so that a caller's proof sees one call.
+impl<'r> Drop for Row<'r> {
+    fn drop(self) {
+        let Row {
+            kind: _kind,
+            pattern: _pattern,
+            searched: _searched,
+            fails: _fails,
+            is_across: _is_across,
+            search: _search,
+            lines: _lines,
+            summary: _summary,
+            json: _json,
+        } = self;
+    }
 }
 
 impl<'r> Row<'r> {

@@ -3,7 +3,6 @@ use percent_encoding::percent_decode_str;
 use std::alloc::{AllocError, Global};
 
 /// The words of a row, with one space between them.
-#[derive(Drop)]
 pub(crate) struct Words<'w> {
     /// The first word, which says what the row is of.
     pub(crate) mark: &'w str,
@@ -18,6 +17,20 @@ pub(crate) struct Words<'w> {
     pub(crate) number: Option<usize>,
     /// The text of a word that begins with `=`.
     pub(crate) template: Option<&'w str>,
+}
+
+// Written out, so that a caller's proof sees one call.
+impl<'w> Drop for Words<'w> {
+    fn drop(self) {
+        let Words {
+            mark: _mark,
+            arguments: _arguments,
+            input: _input,
+            is_cut: _is_cut,
+            number: _number,
+            template: _template,
+        } = self;
+    }
 }
 
 impl<'w> Words<'w> {
