@@ -6,7 +6,7 @@ ghost use Rattle.grep_searcher.specs.PassedCalls.{passed_call};
 ghost use Rattle.grep_searcher.specs.Searches.{searched_bytes};
 ghost use Rattle.uses.specs.LineFlags.{flag_of, line_flags};
 
-use grep_searcher::laws::{calls_are_passed, lines_are_passed, searches_run};
+use grep_searcher::laws::{calls_are_passed, lines_are_passed, parts_are_items, searches_run};
 use grep_searcher::sinks::{Calls, SinkCall};
 use grep_searcher::{Matcher, SearchError, Searcher};
 use std::alloc::{AllocError, Global};
@@ -44,6 +44,7 @@ pub fn flag_lines<M: Matcher + Drop>(
         },
     );
     calls_are_passed::<_, bool>(&sink);
+    parts_are_items::<bool>();
     searches_run::<Global, M, _>(&sink);
     lines_are_passed();
     searcher.search_slice(matcher, bytes, &mut sink)?;
