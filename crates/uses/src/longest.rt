@@ -5,10 +5,9 @@ ghost use Rattle.grep_searcher.specs.HitLines.{IsFilter, kept_hits};
 ghost use Rattle.grep_searcher.specs.KeptFirst.{search_error_makers};
 ghost use Rattle.grep_searcher.specs.KeptMost.{IsFirstMost};
 ghost use Rattle.grep_searcher.specs.LineCounts.{IsLineSearch};
-ghost use Rattle.grep_searcher.specs.MatcherFailures.{FailsAtQuestion, IsLawfulSearch};
+ghost use Rattle.grep_searcher.specs.MatcherFailures.{IsLawfulSearch, IsSliceFailure};
 ghost use Rattle.grep_searcher.specs.Searches.{searched_bytes};
 ghost use Rattle.grep_searcher.specs.SearchErrors.{IsOutOfMemory};
-ghost use Rattle.grep_searcher.specs.SearchFailures.{IsDecodingError};
 ghost use Rattle.uses.specs.LongestLines.{byte_length};
 
 use grep_searcher::laws::{hits_keep_most, slices_fail_for, slices_handle_lines};
@@ -39,9 +38,8 @@ pub fn longest_line<M: Matcher + Drop>(
         → IfOk result (IsFirstMost byte_length (kept_hits searcher.old.settings
         (M.facts matcher).meaning (searched_bytes searcher.old.settings bytes.now))) }
     ensures error { IsLawfulSearch (M.facts matcher) searcher.old.settings → IfErr result (λ e.
-        IsOutOfMemory e
-        ⊎ (FailsAtQuestion (makers_of M.Error.output search_error_makers) (M.facts matcher) e
-        ⊎ IsDecodingError searcher.old (M.facts matcher).meaning bytes.now e)) }
+        IsOutOfMemory e ⊎ IsSliceFailure (makers_of M.Error.output search_error_makers)
+        (M.facts matcher) searcher.old bytes.now e) }
     ensures settings { searcher.new.settings ≡ searcher.old.settings }
     ensures buffers { searcher.old.has_buffers ≡ true → searcher.new.has_buffers ≡ true }
 {
