@@ -6,7 +6,8 @@ use Rattle.std.proofs.lemmas.List.Sums.{sum_by-append}
 use Rattle.std.specs.Prelude.{cond, count_by}
 use Rattle.grep_definitions.specs.Plans.{Call, finishes, Steps}
 use Rattle.grep_definitions.specs.SearchLaws.{calls_of}
-use Rattle.grep_searcher.specs.CountedCalls.{RunsCountCalls, with_passing}
+use Rattle.grep_searcher.specs.CountedCalls.{RunsCountCalls, RunsCountExactly, with_passing}
+use Rattle.grep_searcher.proofs.AppendedItemLemmas.{runs-end}
 use Rattle.grep_searcher.proofs.RunInvariantLemmas.{runs-keep}
 
 -- a count from 0 is exact, if no more is counted than some number that fits in 64 bits
@@ -51,3 +52,12 @@ runs-count_calls step passes count ends by settings old plan new fits run =
     all ∙ ap (λ n. min (count old + n) (2 ^ 64 - 1)) (none
     ∙ ap (λ b. count_by passes (calls_of plan.calls) + (if b then 1 else 0))
     (ends plan.finish.count plan.finish.binary) ∙ omega arith)
+
+pub runs-count_exactly : {S E : Type 0} (step : Steps S E) → RunsCountExactly step
+runs-count_exactly step passes count ends by settings old plan new zero few run =
+    let counted = runs-count_calls step passes count ends (λ from at call b after made.
+    let here = by from at call b after made in (here.0, here.1)) settings old plan new
+    (omega (arith, zero)) run in
+    let end = runs-end step (λ from at call b after made. (by from at call b after made).0) settings
+    old plan new run in
+    count-exact (count new) _ _ (rw zero at counted) few (by end.0 settings _ true new end.1).2

@@ -7,13 +7,16 @@ pub mod CountSinkLemmas
 pub mod CountedCallLemmas
 pub mod CutLemmas
 pub mod DetectedRunLemmas
+pub mod DifferenceLemmas
 pub mod GapLemmas
 pub mod HandledLineLemmas
 pub mod HitLineLemmas
 pub mod InputSearchLemmas
 pub mod KeptFirstLemmas
 pub mod KeptMatchLemmas
+pub mod KeptMostLemmas
 pub mod KeptReportLemmas
+pub mod KeyCountLemmas
 pub mod LentMatchLemmas
 pub mod LineCountLemmas
 pub mod LineFilterLemmas

@@ -14,7 +14,9 @@ pub mod HandledLines
 pub mod HeldViews
 pub mod HitLines
 pub mod KeptFirst
+pub mod KeptMost
 pub mod KeptReports
+pub mod KeyCounts
 pub mod LentMatches
 pub mod LineCounts
 pub mod MatchHandlers

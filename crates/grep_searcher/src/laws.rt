@@ -4,6 +4,7 @@
 ghost use Rattle.std.specs.Str.Lossy.{utf8_lossy};
 ghost use Rattle.grep_searcher.specs.ClosureSinks.{ClosuresAreCalled, ClosuresKeep, IsUtf8Text};
 ghost use Rattle.grep_searcher.specs.ClosureSinks.{IsLossyText, IsWholeText};
+ghost use Rattle.grep_searcher.specs.AppendedItems.{PartsAreItems, RunsAppendHits};
 ghost use Rattle.grep_searcher.specs.AppendedItems.{RunsAppendItems, RunsEnd};
 ghost use Rattle.grep_searcher.specs.AppendedParts.{CallsAppend, RunsAppend, RunsAppendByState};
 ghost use Rattle.grep_searcher.specs.AppendedParts.{RunsAppendLines, RunsAppendMatches};
@@ -12,7 +13,7 @@ ghost use Rattle.grep_searcher.specs.BoundedReads.{EndedKnownReadersStop, EndedR
 ghost use Rattle.grep_searcher.specs.BoundedReads.{FirstEnds, ReadersFindLines};
 ghost use Rattle.grep_searcher.specs.ByteCounts.{CountsToLimit};
 ghost use Rattle.grep_searcher.specs.CountSinks.{RunsCount, RunsCountAll};
-ghost use Rattle.grep_searcher.specs.CountedCalls.{RunsCountCalls};
+ghost use Rattle.grep_searcher.specs.CountedCalls.{RunsCountCalls, RunsCountExactly};
 ghost use Rattle.grep_searcher.specs.DetectedRuns.{DecodedSlicesFailWith, DecodedSlicesRunWith};
 ghost use Rattle.grep_searcher.specs.DetectedRuns.{KnownReadersFailWith, KnownReadersRunWith};
 ghost use Rattle.grep_searcher.specs.DetectedRuns.{ReadersFailWith, ReadersRunWith};
@@ -27,7 +28,9 @@ ghost use Rattle.grep_searcher.specs.HitLines.{MatchedLinesHit, MatchedLinesMatc
 ghost use Rattle.grep_searcher.specs.HitLines.{PredicatesAreCounted};
 ghost use Rattle.grep_searcher.specs.HitLines.{PredicatesAreFiltered, PredicatesAreLines};
 ghost use Rattle.grep_searcher.specs.KeptFirst.{ReadersKeepFirst, search_error_makers};
+ghost use Rattle.grep_searcher.specs.KeptMost.{HitsKeepMost};
 ghost use Rattle.grep_searcher.specs.KeptReports.{RunsKeep, RunsKeepUntil};
+ghost use Rattle.grep_searcher.specs.KeyCounts.{RunsCountHitKeys, RunsCountKeys};
 ghost use Rattle.grep_searcher.specs.LentMatches.{ClosuresAppendByState, ClosuresAppendMatches};
 ghost use Rattle.grep_searcher.specs.LentMatches.{ClosuresAreLent};
 ghost use Rattle.grep_searcher.specs.LentMatches.{ClosuresFailLent, ClosuresKeepMatches};
@@ -196,6 +199,19 @@ pub fn runs_append_items<S: Sink, X>()
     ensures { RunsAppendItems S.step X }
 {}
 
+/// By line, without a stop and without a limit, or without a context after matches, these are the
+/// items of the lines that hit. `X` is what is appended.
+pub fn runs_append_hits<S: Sink, X>()
+    ensures { RunsAppendHits S.step X }
+{}
+
+/// If the part of a call that passes a test is one item, and that of any other call is none, as of
+/// `finish`, the parts of all calls of a run are the items of the planned calls that pass. With
+/// `is_report` as the test these are the items of the reports. `X` is what is appended.
+pub fn parts_are_items<X>()
+    ensures { PartsAreItems X }
+{}
+
 /// If each call of a sink that succeeds goes on, the last call of a run that ended in `Ok` is
 /// `finish`, with the byte count of the whole plan.
 pub fn runs_end<S: Sink>()
@@ -217,6 +233,13 @@ pub fn runs_count_calls<S: Sink>()
     ensures { RunsCountCalls S.step }
 {}
 
+/// If the byte count of such a sink's `finish` also fits in 64 bits, and the planned calls that
+/// pass are at most as many as the byte count of the whole plan, as matches and breaks are, then a
+/// run that ended in `Ok` counted from 0 exactly these.
+pub fn runs_count_exactly<S: Sink>()
+    ensures { RunsCountExactly S.step }
+{}
+
 /// By line, a run of a new `Count` that ended in `Ok` counted the matched lines.
 pub fn runs_count_lines<E>()
     ensures { RunsCountLines E }
@@ -234,6 +257,23 @@ pub fn runs_handle_matches<H: MatchHandler>()
     ensures fits { RunsFit H.goes H.next H.fails }
     ensures reached { CallsReach H.goes H.next }
     ensures lines { LinesReach H.goes H.next }
+{}
+
+/// If a handler always goes on, and keeps a match if it has more by some measure than the one that
+/// was kept, it has kept in the end the first of the lines that hit that have most; or none, if no
+/// line hits. These are the lines of `hit_matches`, which `slices_handle_lines`, for one, says that
+/// a search handled.
+pub fn hits_keep_most<H: MatchHandler>()
+    ensures { HitsKeepMost H.goes H.next }
+{}
+
+/// If a handler always goes on, and adds 1 for a match at the index that is its key, up to the
+/// largest `u64`, a run that ended in `Ok` made of zeros how many of the matches that are reported
+/// have each index as their key. By line, without a stop and without a limit, or without a context
+/// after matches, these matches are the lines that hit.
+pub fn runs_count_keys<H: MatchHandler>()
+    ensures all { RunsCountKeys H.goes H.next H.fails }
+    ensures hits { RunsCountHitKeys H.goes H.next H.fails }
 {}
 
 /// If a handler always goes on and appends a part for each match to what it keeps, a run that ended

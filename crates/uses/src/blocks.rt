@@ -1,9 +1,11 @@
 //! How many blocks of lines match, if a match may extend over several lines.
-ghost use Rattle.std.specs.Prelude.{◌≡◌, true, length, IfOk};
-ghost use Rattle.grep_searcher.specs.Plans.{search_plan};
-ghost use Rattle.grep_searcher.specs.Searches.{searched_bytes};
+ghost use Rattle.std.specs.Prelude.{◌≡◌, ◌⊎◌, true, length, IfOk, IfErr};
 ghost use Rattle.grep_searcher.specs.Literals.{literal_meaning};
+ghost use Rattle.grep_searcher.specs.Plans.{search_plan};
+ghost use Rattle.grep_searcher.specs.SearchErrors.{is_out_of_memory};
+ghost use Rattle.grep_searcher.specs.SearchFailures.{IsDecodingError};
 ghost use Rattle.grep_searcher.specs.SearchLaws.{match_calls};
+ghost use Rattle.grep_searcher.specs.Searches.{searched_bytes};
 ghost use Rattle.uses.specs.AcrossSettings.{across_lines};
 
 use grep_searcher::laws::{runs_count_matches, searches_run};
@@ -21,6 +23,9 @@ pub fn count_blocks(alloc: Global, bytes: &[u8], literal: &[u8]) -> Result<u64, 
     ensures count { IfOk result (λ count. count
         ≡ length (match_calls (search_plan across_lines (literal_meaning literal.now)
         (searched_bytes across_lines bytes.now)).calls)) }
+    ensures error { IfErr result (λ e. (is_out_of_memory e ≡ true)
+        ⊎ IsDecodingError (record { settings = across_lines; has_buffers = true })
+        (literal_meaning literal.now) bytes.now e) }
 {
     let mut searcher = searcher_across(alloc)?;
     let matcher = LiteralMatcher::new(alloc, literal)?;
@@ -33,8 +38,9 @@ pub fn count_blocks(alloc: Global, bytes: &[u8], literal: &[u8]) -> Result<u64, 
 
 // A searcher that finds matches over several lines.
 fn searcher_across(alloc: Global) -> Result<Searcher, ConfigError>
-    ensures { IfOk result (λ searcher.
+    ensures settings { IfOk result (λ searcher.
         searcher ≡ record { settings = across_lines; has_buffers = true }) }
+    ensures error { IfErr result (λ e. e ≡ ConfigError.Memory) }
 {
     SearcherBuilder::new().multi_line(true).build(alloc)
 }

@@ -1,14 +1,13 @@
 //! How many lines that match begin with each byte.
 ghost use Rattle.std.specs.Prelude.{◌≡◌, true, IfOk, IfErr};
 ghost use Rattle.grep_searcher.specs.HitLines.{hit_matches, IsFilter};
+ghost use Rattle.grep_searcher.specs.KeyCounts.{AreKeyCounts};
 ghost use Rattle.grep_searcher.specs.LineCounts.{IsLineSearch};
 ghost use Rattle.grep_searcher.specs.Searches.{searched_bytes};
 ghost use Rattle.grep_searcher.specs.SearchFailures.{IsDecodingError, IsFaultless};
-ghost use Rattle.uses.specs.FirstBytes.{AreFirstBytes};
+ghost use Rattle.uses.specs.FirstBytes.{leading_byte};
 
-use grep_searcher::laws::{
-    lines_are_filtered, matches_are_within_count, runs_handle_matches, searches_run,
-};
+use grep_searcher::laws::{runs_count_keys, searches_run};
 use grep_searcher::sinks::{MatchHandler, OnMatch};
 use grep_searcher::{Matcher, SearchError, Searcher, SinkMatch};
 use std::alloc::Global;
@@ -30,8 +29,8 @@ pub fn count_first_bytes<M: Matcher + Drop>(
 ) -> Result<[u64; 256], SearchError>
     ensures counts { IsLineSearch (M.facts matcher) searcher.old.settings
         → IsFilter searcher.old.settings
-        → IfOk result (AreFirstBytes (hit_matches searcher.old.settings (M.facts matcher).meaning
-        (searched_bytes searcher.old.settings bytes.now))) }
+        → IfOk result (AreKeyCounts 256 leading_byte (hit_matches searcher.old.settings
+        (M.facts matcher).meaning (searched_bytes searcher.old.settings bytes.now))) }
     ensures error { IsFaultless (M.facts matcher) searcher.old.settings
         → IfErr result (IsDecodingError searcher.old (M.facts matcher).meaning bytes.now) }
     ensures settings { searcher.new.settings ≡ searcher.old.settings }
@@ -40,9 +39,7 @@ pub fn count_first_bytes<M: Matcher + Drop>(
     let mut sink = OnMatch::new(FirstBytes { counts: [0; 256] });
     searcher.search_slice(matcher, bytes, &mut sink)?;
     searches_run::<Global, M, _>(&sink);
-    runs_handle_matches::<FirstBytes>();
-    matches_are_within_count();
-    lines_are_filtered();
+    runs_count_keys::<FirstBytes>();
     Ok(sink.into_handler().counts)
 }
 
@@ -62,13 +59,14 @@ impl Model for FirstBytes {
 
 impl MatchHandler for FirstBytes {
     ghost use Rattle.std.specs.Prelude.{true};
-    ghost use Rattle.uses.specs.FirstBytes.{with_first_byte};
+    ghost use Rattle.grep_searcher.specs.KeyCounts.{with_key};
+    ghost use Rattle.uses.specs.FirstBytes.{leading_byte};
 
     type Error = SearchError;
 
     ghost goes = { λ _ _. true };
 
-    ghost next = { with_first_byte };
+    ghost next = { λ counts found. with_key counts (leading_byte found) };
 
     ghost fails = { λ _ _ _ _. ⊥ };
 

@@ -1,10 +1,14 @@
 //! The lines of all matches.
-ghost use Rattle.std.specs.Prelude.{◌≡◌, true, IfOk};
-ghost use Rattle.grep_searcher.specs.Searches.{searched_bytes};
+ghost use Rattle.std.specs.Prelude.{◌≡◌, ◌⊎◌, true, IfOk, IfErr};
+ghost use Rattle.grep_searcher.specs.ErrorMakers.{makers_of};
+ghost use Rattle.grep_searcher.specs.KeptFirst.{search_error_makers};
 ghost use Rattle.grep_searcher.specs.LineCounts.{IsLineSearch};
+ghost use Rattle.grep_searcher.specs.MatcherFailures.{IsLawfulSearch, IsSliceFailure};
+ghost use Rattle.grep_searcher.specs.SearchErrors.{IsOutOfMemory};
+ghost use Rattle.grep_searcher.specs.Searches.{searched_bytes};
 ghost use Rattle.uses.specs.MatchedLines.{matched_bytes};
 
-use grep_searcher::laws::{runs_append_matches, searches_run};
+use grep_searcher::laws::{runs_append_matches, searches_run, slices_fail_for};
 use grep_searcher::sinks::{MatchHandler, OnMatch};
 use grep_searcher::{Matcher, SearchError, Searcher, SinkMatch};
 use std::alloc::Global;
@@ -27,12 +31,16 @@ pub fn matching_lines<M: Matcher + Drop>(
         → IfOk result (λ text. text.items
         ≡ matched_bytes searcher.old.settings (M.facts matcher).meaning
         (searched_bytes searcher.old.settings bytes.now)) }
+    ensures error { IsLawfulSearch (M.facts matcher) searcher.old.settings → IfErr result (λ e.
+        IsOutOfMemory e ⊎ IsSliceFailure (makers_of M.Error.output search_error_makers)
+        (M.facts matcher) searcher.old bytes.now e) }
     ensures settings { searcher.new.settings ≡ searcher.old.settings }
     ensures buffers { searcher.old.has_buffers ≡ true → searcher.new.has_buffers ≡ true }
 {
     let mut sink = OnMatch::new(MatchText {
         text: Vec::new(alloc),
     });
+    slices_fail_for::<Global, M, _>(&sink);
     searcher.search_slice(matcher, bytes, &mut sink)?;
     searches_run::<Global, M, _>(&sink);
     runs_append_matches::<MatchText, u8>();

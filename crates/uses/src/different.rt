@@ -1,5 +1,5 @@
 //! Where the lines of two inputs that match first differ.
-ghost use Rattle.std.specs.Prelude.{◌≡◌, true, filter, is_some, IfOk, IfErr};
+ghost use Rattle.std.specs.Prelude.{◌≡◌, ◌≢◌, true, filter, is_some, IfOk, IfErr, MatchBool};
 ghost use Rattle.grep_searcher.specs.Lines.{lines};
 ghost use Rattle.grep_searcher.specs.MatchHandlers.{bytes_of_each};
 ghost use Rattle.grep_searcher.specs.Plans.{IsLawful};
@@ -44,7 +44,7 @@ fn first_unlike(left: &[Vec<u8>], right: &[Vec<u8>]) -> Option<usize>
 {
     let shorter = left.len().min(right.len());
     for index in 0..shorter {
-        if left[index].as_slice() != right[index].as_slice() {
+        if are_unlike(&left[index], &right[index]) {
             return Some(index);
         }
     }
@@ -53,4 +53,11 @@ fn first_unlike(left: &[Vec<u8>], right: &[Vec<u8>]) -> Option<usize>
     } else {
         Some(shorter)
     }
+}
+
+// Whether two lines differ.
+fn are_unlike(left: &[u8], right: &[u8]) -> bool
+    ensures { MatchBool result (left.now ≢ right.now) (left.now ≡ right.now) }
+{
+    left != right
 }

@@ -1,12 +1,16 @@
 //! Which lines match.
-ghost use Rattle.std.specs.Prelude.{◌≡◌, ◌++◌, true, IfOk, OnOk};
+ghost use Rattle.std.specs.Prelude.{◌≡◌, ◌++◌, true, IfOk, IfErr, MatchResult, OnOk};
 ghost use Rattle.grep_searcher.specs.HitLines.{IsUnlimited};
 ghost use Rattle.grep_searcher.specs.LineCounts.{IsLineSearch};
+ghost use Rattle.grep_searcher.specs.MatcherFailures.{IsLawfulSearch};
 ghost use Rattle.grep_searcher.specs.PassedCalls.{passed_call};
 ghost use Rattle.grep_searcher.specs.Searches.{searched_bytes};
+ghost use Rattle.uses.specs.IoFailures.{IsIoFailure, IsMemoryError};
 ghost use Rattle.uses.specs.LineFlags.{flag_of, line_flags};
 
-use grep_searcher::laws::{calls_are_passed, lines_are_passed, searches_run};
+use grep_searcher::laws::{
+    calls_are_passed, lines_are_passed, parts_are_items, searches_run, slices_fail_for,
+};
 use grep_searcher::sinks::{Calls, SinkCall};
 use grep_searcher::{Matcher, SearchError, Searcher};
 use std::alloc::{AllocError, Global};
@@ -30,21 +34,26 @@ pub fn flag_lines<M: Matcher + Drop>(
         → searcher.old.settings.passthru ≡ true → IsUnlimited searcher.old.settings
         → IfOk result (λ flags. flags.items ≡ line_flags searcher.old.settings
         (M.facts matcher).meaning (searched_bytes searcher.old.settings bytes.now)) }
+    ensures error { IsLawfulSearch (M.facts matcher) searcher.old.settings → IfErr result
+        (IsIoFailure M.Error.output (M.facts matcher) searcher.old bytes.now) }
     ensures settings { searcher.new.settings ≡ searcher.old.settings }
     ensures buffers { searcher.old.has_buffers ≡ true → searcher.new.has_buffers ≡ true }
 {
     let mut flags = Vec::new(alloc);
     let mut sink = Calls(
         |call: SinkCall<'_>|
-            ensures { IfOk result (λ goes. (goes ≡ true)
-                × (flags.exit.items ≡ flags.entry.items ++ flag_of (passed_call call.entry))) }
+            ensures { MatchResult result (λ goes. (goes ≡ true)
+                × (flags.exit.items ≡ flags.entry.items ++ flag_of (passed_call call.entry)))
+                IsMemoryError }
         {
             push_flag(&mut flags, call)?;
             Ok(true)
         },
     );
     calls_are_passed::<_, bool>(&sink);
+    parts_are_items::<bool>();
     searches_run::<Global, M, _>(&sink);
+    slices_fail_for::<Global, M, _>(&sink);
     lines_are_passed();
     searcher.search_slice(matcher, bytes, &mut sink)?;
     Ok(flags)

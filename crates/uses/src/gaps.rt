@@ -7,7 +7,7 @@ ghost use Rattle.grep_searcher.specs.SearchFailures.{IsDecodingError, IsFaultles
 ghost use Rattle.grep_searcher.specs.SearchLaws.{calls_of, report_calls};
 ghost use Rattle.uses.specs.PlannedCalls.{planned_calls};
 
-use grep_searcher::laws::{breaks_are_gaps, runs_count_calls, runs_end, searches_run};
+use grep_searcher::laws::{breaks_are_gaps, runs_count_exactly, searches_run};
 use grep_searcher::{Matcher, SearchError, Searcher, Sink, SinkContext, SinkFinish, SinkMatch};
 use std::alloc::{Allocator, Global};
 use std::marker::Model;
@@ -39,8 +39,7 @@ pub fn count_gaps<M: Matcher + Drop>(
     let mut sink = Breaks { count: 0 };
     searcher.search_slice(matcher, bytes, &mut sink)?;
     searches_run::<Global, M, _>(&sink);
-    runs_count_calls::<Breaks>();
-    runs_end::<Breaks>();
+    runs_count_exactly::<Breaks>();
     breaks_are_gaps();
     Ok(sink.count)
 }

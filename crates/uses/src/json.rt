@@ -1,15 +1,17 @@
 //! The matches of a slice as lines of JSON, by a closure.
-ghost use Rattle.std.specs.Prelude.{◌≡◌, ◌++◌, true, IfOk, OnOk};
+ghost use Rattle.std.specs.Prelude.{◌≡◌, ◌++◌, true, IfOk, IfErr, MatchResult, OnOk};
 ghost use Rattle.std.specs.List.{flat_map};
 ghost use Rattle.std.specs.String.{string_bytes};
+ghost use Rattle.grep_searcher.specs.MatcherFailures.{IsLawfulSearch};
 ghost use Rattle.grep_searcher.specs.Plans.{IsLawful, search_plan};
 ghost use Rattle.grep_searcher.specs.Searches.{searched_bytes};
 ghost use Rattle.grep_searcher.specs.SearchLaws.{match_calls};
 ghost use Rattle.grep_searcher.specs.SinkArguments.{match_call};
 ghost use Rattle.serde_json.specs.View.{view};
+ghost use Rattle.uses.specs.IoFailures.{IsIoFailure, IsMemoryError};
 ghost use Rattle.uses.specs.JsonLines.{json_data, json_of, json_text};
 
-use grep_searcher::laws::{matches_are_lent, searches_run};
+use grep_searcher::laws::{matches_are_lent, searches_run, slices_fail_for};
 use grep_searcher::sinks::Matches;
 use grep_searcher::{BinaryDetection, Matcher, SearchError, Searcher, SinkMatch};
 use serde_json::{Value, json};
@@ -32,14 +34,17 @@ pub fn json_lines<M: Matcher + Drop>(
         → searcher.old.settings.binary_detection ≡ BinaryDetection.None → IfOk result (λ text.
         text.items ≡ flat_map json_of (match_calls (search_plan searcher.old.settings
         (M.facts matcher).meaning (searched_bytes searcher.old.settings bytes.now)).calls)) }
+    ensures error { IsLawfulSearch (M.facts matcher) searcher.old.settings → IfErr result
+        (IsIoFailure M.Error.output (M.facts matcher) searcher.old bytes.now) }
     ensures settings { searcher.new.settings ≡ searcher.old.settings }
     ensures buffers { searcher.old.has_buffers ≡ true → searcher.new.has_buffers ≡ true }
 {
     let mut text = Vec::new(alloc);
     let mut sink = Matches(
         |found: &SinkMatch<'_>|
-            ensures { IfOk result (λ goes. (goes ≡ true)
-                × (text.exit.items ≡ text.entry.items ++ json_of (match_call found.now))) }
+            ensures { MatchResult result (λ goes. (goes ≡ true)
+                × (text.exit.items ≡ text.entry.items ++ json_of (match_call found.now)))
+                IsMemoryError }
         {
             write_json(alloc, &mut text, found)?;
             Ok(true)
@@ -47,6 +52,7 @@ pub fn json_lines<M: Matcher + Drop>(
     );
     matches_are_lent::<_, u8>(&sink);
     searches_run::<Global, M, _>(&sink);
+    slices_fail_for::<Global, M, _>(&sink);
     searcher.search_slice(matcher, bytes, &mut sink)?;
     Ok(text)
 }

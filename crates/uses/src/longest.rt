@@ -3,14 +3,14 @@ ghost use Rattle.std.specs.Prelude.{◌≡◌, ◌⊎◌, true, IfOk, IfErr};
 ghost use Rattle.grep_searcher.specs.ErrorMakers.{makers_of};
 ghost use Rattle.grep_searcher.specs.HitLines.{IsFilter, kept_hits};
 ghost use Rattle.grep_searcher.specs.KeptFirst.{search_error_makers};
+ghost use Rattle.grep_searcher.specs.KeptMost.{IsFirstMost};
 ghost use Rattle.grep_searcher.specs.LineCounts.{IsLineSearch};
-ghost use Rattle.grep_searcher.specs.MatcherFailures.{FailsAtQuestion, IsLawfulSearch};
+ghost use Rattle.grep_searcher.specs.MatcherFailures.{IsLawfulSearch, IsSliceFailure};
 ghost use Rattle.grep_searcher.specs.Searches.{searched_bytes};
 ghost use Rattle.grep_searcher.specs.SearchErrors.{IsOutOfMemory};
-ghost use Rattle.grep_searcher.specs.SearchFailures.{IsDecodingError};
-ghost use Rattle.uses.specs.LongestLines.{IsLongest};
+ghost use Rattle.uses.specs.LongestLines.{byte_length};
 
-use grep_searcher::laws::{slices_fail_for, slices_handle_lines};
+use grep_searcher::laws::{hits_keep_most, slices_fail_for, slices_handle_lines};
 use grep_searcher::sinks::{KeptMatch, MatchHandler, OnMatch};
 use grep_searcher::{Matcher, SearchError, Searcher, SinkMatch};
 use std::alloc::Global;
@@ -35,18 +35,18 @@ pub fn longest_line<M: Matcher + Drop>(
 ) -> Result<Option<KeptMatch>, SearchError>
     ensures line { IsLineSearch (M.facts matcher) searcher.old.settings
         → IsFilter searcher.old.settings
-        → IfOk result (IsLongest (kept_hits searcher.old.settings (M.facts matcher).meaning
-        (searched_bytes searcher.old.settings bytes.now))) }
+        → IfOk result (IsFirstMost byte_length (kept_hits searcher.old.settings
+        (M.facts matcher).meaning (searched_bytes searcher.old.settings bytes.now))) }
     ensures error { IsLawfulSearch (M.facts matcher) searcher.old.settings → IfErr result (λ e.
-        IsOutOfMemory e
-        ⊎ (FailsAtQuestion (makers_of M.Error.output search_error_makers) (M.facts matcher) e
-        ⊎ IsDecodingError searcher.old (M.facts matcher).meaning bytes.now e)) }
+        IsOutOfMemory e ⊎ IsSliceFailure (makers_of M.Error.output search_error_makers)
+        (M.facts matcher) searcher.old bytes.now e) }
     ensures settings { searcher.new.settings ≡ searcher.old.settings }
     ensures buffers { searcher.old.has_buffers ≡ true → searcher.new.has_buffers ≡ true }
 {
     let mut sink = OnMatch::new(Longest { alloc, line: None });
     slices_fail_for::<Global, M, _>(&sink);
     slices_handle_lines::<Global, M, Longest>();
+    hits_keep_most::<Longest>();
     searcher.search_slice(matcher, bytes, &mut sink)?;
     Ok(sink.into_handler().into_line())
 }
@@ -79,14 +79,15 @@ impl Longest {
 
 impl MatchHandler for Longest {
     ghost use Rattle.std.specs.Prelude.{true};
-    ghost use Rattle.grep_searcher.specs.MatchHandlers.{LacksMemory};
-    ghost use Rattle.uses.specs.LongestLines.{with_line};
+    ghost use Rattle.grep_searcher.specs.KeptMost.{with_more};
+    ghost use Rattle.grep_searcher.specs.MatchHandlers.{kept_of, LacksMemory};
+    ghost use Rattle.uses.specs.LongestLines.{byte_length};
 
     type Error = SearchError;
 
     ghost goes = { λ _ _. true };
 
-    ghost next = { with_line };
+    ghost next = { λ longest found. with_more byte_length longest (kept_of found) };
 
     ghost fails = { LacksMemory };
 

@@ -1,9 +1,10 @@
 //! How many lines have a byte that isn't ASCII: a matcher of one's own that a search asks about
 //! many lines at once.
-ghost use Rattle.std.specs.Prelude.{◌≡◌, ◌<◌, length, false, true, IfOk, IfSome};
+ghost use Rattle.std.specs.Prelude.{◌≡◌, ◌<◌, length, false, true, None, IfOk, IfErr, IfSome};
 ghost use Rattle.std.specs.List.{position};
 ghost use Rattle.grep_searcher.specs.HitLines.{IsUnlimited};
-ghost use Rattle.grep_searcher.specs.Plans.{is_across};
+ghost use Rattle.grep_searcher.specs.Plans.{is_across, refusal_of};
+ghost use Rattle.grep_searcher.specs.SearchFailures.{IsDecodingError};
 ghost use Rattle.uses.specs.NonAsciiLines.{IsNonAsciiCount, is_high, non_ascii};
 
 use crate::count::count_matching_lines;
@@ -23,6 +24,8 @@ pub fn count_non_ascii_lines(searcher: &mut Searcher, bytes: &[u8]) -> Result<u6
         → searcher.old.settings.binary_detection ≡ BinaryDetection.None
         → IsUnlimited searcher.old.settings → searcher.old.settings.invert_match ≡ false
         → IfOk result (IsNonAsciiCount searcher.old.settings bytes.now) }
+    ensures error { refusal_of searcher.old.settings non_ascii ≡ None
+        → IfErr result (IsDecodingError searcher.old non_ascii bytes.now) }
     ensures settings { searcher.new.settings ≡ searcher.old.settings }
     ensures buffers { searcher.old.has_buffers ≡ true → searcher.new.has_buffers ≡ true }
 {

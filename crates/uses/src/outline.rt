@@ -1,12 +1,16 @@
 //! The outline of a search, which has a byte for each report, by a sink of its own.
-ghost use Rattle.std.specs.Prelude.{◌≡◌, true, IfOk};
+ghost use Rattle.std.specs.Prelude.{◌≡◌, ◌⊎◌, true, IfOk, IfErr};
 ghost use Rattle.std.specs.List.{flat_map};
 ghost use Rattle.grep_searcher.specs.AppendedParts.{run_calls};
+ghost use Rattle.grep_searcher.specs.ErrorMakers.{makers_of};
+ghost use Rattle.grep_searcher.specs.KeptFirst.{search_error_makers};
+ghost use Rattle.grep_searcher.specs.MatcherFailures.{IsLawfulSearch, IsSliceFailure};
 ghost use Rattle.grep_searcher.specs.Plans.{IsLawful, search_plan};
+ghost use Rattle.grep_searcher.specs.SearchErrors.{IsOutOfMemory};
 ghost use Rattle.grep_searcher.specs.Searches.{searched_bytes};
 ghost use Rattle.uses.specs.Outlines.{outline_part};
 
-use grep_searcher::laws::{runs_append_parts, searches_run};
+use grep_searcher::laws::{runs_append_parts, searches_run, slices_fail_for};
 use grep_searcher::{
     BinaryDetection, Matcher, SearchError, Searcher, Sink, SinkContext, SinkFinish, SinkMatch,
 };
@@ -29,12 +33,16 @@ pub fn search_outline<M: Matcher + Drop>(
         → searcher.old.settings.binary_detection ≡ BinaryDetection.None → IfOk result (λ outline.
         outline.items ≡ flat_map outline_part (run_calls (search_plan searcher.old.settings
         (M.facts matcher).meaning (searched_bytes searcher.old.settings bytes.now)))) }
+    ensures error { IsLawfulSearch (M.facts matcher) searcher.old.settings → IfErr result (λ e.
+        IsOutOfMemory e ⊎ IsSliceFailure (makers_of M.Error.output search_error_makers)
+        (M.facts matcher) searcher.old bytes.now e) }
     ensures settings { searcher.new.settings ≡ searcher.old.settings }
     ensures buffers { searcher.old.has_buffers ≡ true → searcher.new.has_buffers ≡ true }
 {
     let mut sink = Outline {
         bytes: Vec::new(alloc),
     };
+    slices_fail_for::<Global, M, _>(&sink);
     searcher.search_slice(matcher, bytes, &mut sink)?;
     searches_run::<Global, M, _>(&sink);
     runs_append_parts::<Outline, u8>();
@@ -66,13 +74,14 @@ impl Outline {
 }
 
 impl Sink for Outline {
-    ghost use Rattle.std.specs.Prelude.{◌≡◌, ◌++◌, true, IfOk};
+    ghost use Rattle.std.specs.Prelude.{◌≡◌, ◌++◌, true, MatchResult};
+    ghost use Rattle.grep_searcher.specs.SearchErrors.{IsOutOfMemory};
     ghost use Rattle.uses.specs.Outlines.{outline_part};
 
     type Error = SearchError;
 
-    ghost step = { λ old _ call result new.
-        IfOk result (λ goes. (goes ≡ true) × (new ≡ old ++ outline_part call)) };
+    ghost step = { λ old _ call result new. MatchResult result
+        (λ goes. (goes ≡ true) × (new ≡ old ++ outline_part call)) IsOutOfMemory };
 
     ghost may_call = { λ _. Unit {0} };
 

@@ -1,8 +1,9 @@
 //! How many lines start with a prefix: a matcher of one's own.
-ghost use Rattle.std.specs.Prelude.{◌≡◌, false, true, IfOk};
+ghost use Rattle.std.specs.Prelude.{◌≡◌, false, true, IfOk, IfErr};
 ghost use Rattle.grep_searcher.specs.HitLines.{IsUnlimited};
 ghost use Rattle.grep_searcher.specs.Searches.{searched_bytes};
 ghost use Rattle.grep_searcher.specs.LineCounts.{IsLineSearch};
+ghost use Rattle.grep_searcher.specs.SearchFailures.{IsDecodingError, IsFaultless};
 ghost use Rattle.uses.specs.Prefixes.{prefix_facts, prefixed_count};
 
 use crate::count::count_matching_lines;
@@ -24,6 +25,8 @@ pub fn count_with_prefix(
         → IsUnlimited searcher.old.settings → searcher.old.settings.invert_match ≡ false
         → IfOk result (λ count. count ≡ prefixed_count searcher.old.settings prefix.now
         (searched_bytes searcher.old.settings bytes.now)) }
+    ensures error { IsFaultless (prefix_facts prefix.now) searcher.old.settings → IfErr result
+        (IsDecodingError searcher.old (prefix_facts prefix.now).meaning bytes.now) }
     ensures settings { searcher.new.settings ≡ searcher.old.settings }
     ensures buffers { searcher.old.has_buffers ≡ true → searcher.new.has_buffers ≡ true }
 {

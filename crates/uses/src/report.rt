@@ -1,11 +1,13 @@
 //! A report of the matches with the lines near them, by a closure that gets each call.
-ghost use Rattle.std.specs.Prelude.{◌≡◌, ◌++◌, ◌∷◌, true, IfOk, OnOk};
+ghost use Rattle.std.specs.Prelude.{◌≡◌, ◌++◌, ◌∷◌, true, IfOk, IfErr, MatchResult, OnOk};
+ghost use Rattle.grep_searcher.specs.MatcherFailures.{IsLawfulSearch};
+ghost use Rattle.grep_searcher.specs.PassedCalls.{passed_call};
 ghost use Rattle.grep_searcher.specs.Plans.{IsLawful, search_plan};
 ghost use Rattle.grep_searcher.specs.Searches.{searched_bytes};
-ghost use Rattle.grep_searcher.specs.PassedCalls.{passed_call};
+ghost use Rattle.uses.specs.IoFailures.{IsIoFailure, IsMemoryError};
 ghost use Rattle.uses.specs.MarkedCalls.{marked_text, one_before, report_of};
 
-use grep_searcher::laws::{calls_are_passed, searches_run};
+use grep_searcher::laws::{calls_are_passed, searches_run, slices_fail_for};
 use grep_searcher::sinks::{Calls, SinkCall};
 use grep_searcher::{
     BinaryDetection, ConfigError, Matcher, SearchError, Searcher, SearcherBuilder,
@@ -29,14 +31,17 @@ pub fn in_context<M: Matcher + Drop>(
         → searcher.old.settings.binary_detection ≡ BinaryDetection.None → IfOk result (λ text.
         text.items ≡ report_of (search_plan searcher.old.settings (M.facts matcher).meaning
         (searched_bytes searcher.old.settings bytes.now))) }
+    ensures error { IsLawfulSearch (M.facts matcher) searcher.old.settings → IfErr result
+        (IsIoFailure M.Error.output (M.facts matcher) searcher.old bytes.now) }
     ensures settings { searcher.new.settings ≡ searcher.old.settings }
     ensures buffers { searcher.old.has_buffers ≡ true → searcher.new.has_buffers ≡ true }
 {
     let mut text = Vec::new(alloc);
     let mut sink = Calls(
         |call: SinkCall<'_>|
-            ensures { IfOk result (λ goes. (goes ≡ true)
-                × (text.exit.items ≡ text.entry.items ++ marked_text (passed_call call.entry))) }
+            ensures { MatchResult result (λ goes. (goes ≡ true)
+                × (text.exit.items ≡ text.entry.items ++ marked_text (passed_call call.entry)))
+                IsMemoryError }
         {
             write_call(&mut text, call)?;
             Ok(true)
@@ -44,6 +49,7 @@ pub fn in_context<M: Matcher + Drop>(
     );
     calls_are_passed::<_, u8>(&sink);
     searches_run::<Global, M, _>(&sink);
+    slices_fail_for::<Global, M, _>(&sink);
     searcher.search_slice(matcher, bytes, &mut sink)?;
     Ok(text)
 }

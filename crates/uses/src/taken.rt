@@ -8,9 +8,7 @@ ghost use Rattle.grep_searcher.specs.SearchFailures.{IsFaultless};
 ghost use Rattle.uses.specs.PlainSettings.{limited_to};
 
 use crate::plain::{input_is_searched, searcher_limited_to};
-use grep_searcher::laws::{
-    counts_to_limit, lines_are_filtered, runs_append_items, runs_end, searches_run, slices_fail,
-};
+use grep_searcher::laws::{counts_to_limit, runs_append_hits, runs_end, searches_run, slices_fail};
 use grep_searcher::sinks::KeptMatch;
 use grep_searcher::{Matcher, SearchError, Searcher, Sink, SinkContext, SinkFinish, SinkMatch};
 use std::alloc::{Allocator, Global};
@@ -47,9 +45,8 @@ pub fn take_lines<M: Matcher + Drop>(
     slices_fail::<Global, M, _>(&sink);
     searcher.search_slice(matcher, bytes, &mut sink)?;
     searches_run::<Global, M, _>(&sink);
-    runs_append_items::<Lines, KeptMatch>();
+    runs_append_hits::<Lines, KeptMatch>();
     runs_end::<Lines>();
-    lines_are_filtered();
     counts_to_limit();
     Ok(sink.into_parts())
 }

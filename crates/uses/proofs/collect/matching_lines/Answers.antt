@@ -1,4 +1,5 @@
-use Rattle.std.proofs.Common.{refl, arith}
+use Rattle.std.proofs.Common.{refl, arith, inl, inr}
+use Rattle.std.proofs.lemmas.Result.{err_from_is_err_and}
 use Rattle.grep_searcher.specs.Searches.{searched_bytes}
 use Rattle.grep_searcher.specs.Plans.{reported_bytes}
 use Rattle.uses.proofs.collect.matching_lines.Goals as goal
@@ -11,3 +12,10 @@ returns-clause-lines g c = λ by.
     (c.searches_run.ensures c.args.matcher c.args.searcher.now c.args.bytes.now _ _ by.undetected by.lawful
     c.in_ok-search_slice.ensures.searched) in
     grind (arith, kept, c.new-sink.ensures, c.new.ensures.items, c.into_text.ensures, c.into_handler.ensures)
+
+pub returns-in_err-search_slice-clause-error : goal.returns-in_err-search_slice-clause-error
+returns-in_err-search_slice-clause-error g c = λ sound.
+    let error = err_from_is_err_and c.from_residual.result c.from_residual.ensures.1 in
+    rw (error.1, error.2)
+    (elim (c.slices_fail_for.ensures c.args.matcher c.args.searcher.now c.args.bytes.now _ _ _ sound
+    c.in_err-search_slice.ensures.searched) [ inl step ↦ inl step.2.1.0 | inr other ↦ inr other ])

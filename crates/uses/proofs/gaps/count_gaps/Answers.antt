@@ -1,24 +1,20 @@
-use Rattle.std.proofs.Common.{◌-◌, refl, arith, ◌∙◌}
+use Rattle.std.proofs.Common.{refl, ◌∙◌}
 use Rattle.std.proofs.lemmas.Result.{err_from_is_err_and}
 use Rattle.grep_searcher.specs.Plans.{is_break}
 use Rattle.grep_searcher.specs.Searches.{searched_bytes}
-use Rattle.grep_searcher.proofs.CountedCallLemmas.{count-exact}
 use Rattle.uses.proofs.gaps.count_gaps.Goals as goal
 
 pub returns-clause-breaks : goal.returns-clause-breaks
-returns-clause-breaks g c = λ by.
-    let settings = c.args.searcher.now.settings in let meaning = (g.M.Matcher.facts c.args.matcher).meaning in
-    let run = c.searches_run.ensures c.args.matcher c.args.searcher.now c.args.bytes.now _ _ by.undetected by.lawful
-    c.in_ok-search_slice.ensures.searched in
-    c.sink.view_is ∙ count-exact _ _ _ (c.runs_count_calls.ensures is_break (λ count. count) (λ _ _. refl)
-    (λ _ _ _ _ _ h. (h.0, h.1)) _ _ _ _ (omega arith) run)
-    (c.breaks_are_gaps.ensures.few settings meaning (searched_bytes settings c.args.bytes.now) by.by_line)
-    (c.runs_end.ensures (λ _ _ _ _ _ h. h.0) _ _ _ _ run).1.2
+returns-clause-breaks g c = λ by. let settings = c.args.searcher.now.settings in
+    c.sink.view_is ∙ c.runs_count_exactly.ensures is_break (λ count. count) (λ _ _. refl) (λ _ _ _ _ _ h. h) _ _ _ _
+    refl (c.breaks_are_gaps.ensures.few settings (g.M.Matcher.facts c.args.matcher).meaning
+    (searched_bytes settings c.args.bytes.now) by.by_line) (c.searches_run.ensures c.args.matcher c.args.searcher.now
+    c.args.bytes.now _ _ by.undetected by.lawful c.in_ok-search_slice.ensures.searched)
 
 pub returns-clause-gaps : goal.returns-clause-gaps
 returns-clause-gaps g c = λ by near. let settings = c.args.searcher.now.settings in
-    returns-clause-breaks g c by ∙ c.breaks_are_gaps.ensures.counted settings (g.M.Matcher.facts c.args.matcher).meaning
-    (searched_bytes settings c.args.bytes.now) by.by_line near
+    returns-clause-breaks g c by ∙ c.breaks_are_gaps.ensures.counted settings
+    (g.M.Matcher.facts c.args.matcher).meaning (searched_bytes settings c.args.bytes.now) by.by_line near
 
 pub returns-in_err-search_slice-clause-error : goal.returns-in_err-search_slice-clause-error
 returns-in_err-search_slice-clause-error g c = λ sound.

@@ -25,3 +25,7 @@ returns-clause-count c = λ by_line undetected free plain.
       by_line = by_line;
       undetected = undetected;
     })
+
+pub returns-clause-error : goal.returns-clause-error
+returns-clause-error c = λ allowed. c.count_matching_lines.ensures.error
+    (record { infallible = λ _ _ h. h; lawful = λ asks. lawful _ asks.excludes; allowed = allowed })

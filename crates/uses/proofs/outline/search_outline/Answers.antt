@@ -1,4 +1,5 @@
-use Rattle.std.proofs.Common.{arith}
+use Rattle.std.proofs.Common.{arith, inl, inr}
+use Rattle.std.proofs.lemmas.Result.{err_from_is_err_and}
 use Rattle.uses.specs.Outlines.{outline_part}
 use Rattle.uses.proofs.outline.search_outline.Goals as goal
 
@@ -8,3 +9,10 @@ returns-clause-outline g c = λ lawful undetected.
     (c.searches_run.ensures c.args.matcher c.args.searcher.now c.args.bytes.now _ _ undetected lawful
     c.in_ok-search_slice.ensures.searched) in
     grind (arith, kept, c.new.ensures.items, c.into_bytes.ensures)
+
+pub returns-in_err-search_slice-clause-error : goal.returns-in_err-search_slice-clause-error
+returns-in_err-search_slice-clause-error g c = λ sound.
+    let error = err_from_is_err_and c.from_residual.result c.from_residual.ensures.1 in
+    rw (error.1, error.2)
+    (elim (c.slices_fail_for.ensures c.args.matcher c.args.searcher.now c.args.bytes.now _ _ _ sound
+    c.in_err-search_slice.ensures.searched) [ inl step ↦ inl step.2 | inr other ↦ inr other ])
