@@ -19,6 +19,7 @@ ghost use Rattle.grep_searcher.specs.DetectedRuns.{KnownReadersFailWith, KnownRe
 ghost use Rattle.grep_searcher.specs.DetectedRuns.{ReadersFailWith, ReadersRunWith};
 ghost use Rattle.grep_searcher.specs.DetectedRuns.{SlicesFailWith, SlicesRunWith};
 ghost use Rattle.grep_searcher.specs.EveryLines.{AllLinesHit, EveryLineHits};
+ghost use Rattle.grep_searcher.specs.FirstByteMatches.{FirstBytesAreFound, FirstBytesMatchByLine};
 ghost use Rattle.grep_searcher.specs.Gaps.{BreaksAreCounted, BreaksAreFew, BreaksAreGaps};
 ghost use Rattle.grep_searcher.specs.HandledLines.{KnownReadersHandleLines, ReadersHandleLines};
 ghost use Rattle.grep_searcher.specs.HandledLines.{LinesReach, SlicesHandleLines};
@@ -119,6 +120,14 @@ pub fn lines_are_filtered()
 pub fn lines_are_passed()
     ensures lines { LinesArePassed }
     ensures hits { PassedLinesHit }
+{}
+
+/// A matcher whose first match is the first byte that passes a test has a match if any byte passes.
+/// If a line feed doesn't pass, it matches by line (`MatchesByLine`), as a matcher that answers
+/// about many lines by `LineMatchKind::confirm` has to.
+pub fn first_bytes_match_by_line()
+    ensures found { FirstBytesAreFound }
+    ensures by_line { FirstBytesMatchByLine }
 {}
 
 /// In a search by line each line that is reported as a match hits, whatever is set. So without
