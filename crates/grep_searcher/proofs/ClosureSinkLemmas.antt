@@ -2,9 +2,11 @@
 use Rattle.std.proofs.Common.{◌≡◌, ℕ, ◌+◌, Bool, true, false, List, [], ◌∷◌, ◌++◌, Some, None, sym}
 use Rattle.std.proofs.Common.{ap, subst, ◌∙◌, inl, inr, append_assoc}
 use Rattle.std.proofs.lemmas.List.{append-nil}
-use Rattle.std.specs.Prelude.{Result, Ok, map, if◌then◌else◌}
+use Rattle.std.specs.Prelude.{Result, Ok, Err, map, if◌then◌else◌}
 use Rattle.std.specs.Borrow.{Bor}
+use Rattle.std.specs.IoError.{error_kind}
 use Rattle.std.specs.declared.io.Error.{Error}
+use Rattle.std.specs.declared.io.ErrorKind.TheVariants.{Other}
 use Rattle.grep_definitions.specs.Plans.{line, start, Settings, Call, begins, matches, context}
 use Rattle.grep_definitions.specs.Plans.{breaks, binary_data, finishes}
 use Rattle.grep_definitions.specs.SearchLaws.{match_of, matched_lines}
@@ -13,7 +15,8 @@ use Rattle.grep_searcher.specs.SinkFolds.{AreTaken, IsTakenOk}
 use Rattle.grep_searcher.proofs.SinkFoldLemmas.{runs-take_matches}
 use Rattle.grep_matcher.specs.Meanings.{Meaning}
 use Rattle.grep_searcher.specs.ClosureSinks.{IsClosureStep, IsCalledAt, ClosureSteps}
-use Rattle.grep_searcher.specs.ClosureSinks.{ClosuresAreCalled, KeepsCalls, ClosuresKeep}
+use Rattle.grep_searcher.specs.ClosureSinks.{ClosuresAreCalled, ClosuresFail, KeepsCalls}
+use Rattle.grep_searcher.specs.ClosureSinks.{ClosuresKeep}
 use Rattle.grep_report.specs.SinkReports.{no_surroundings}
 
 module _ {F : Type 0} (call : F → ℕ → Bor (List ℕ) → Result Bool Error → F → Type 0)
@@ -39,6 +42,22 @@ module _ {F : Type 0} (call : F → ℕ → Bor (List ℕ) → Result Bool Error
         (λ from made b after h. closure-takes (closure from) made b (closure after) h) old
         plan.calls run;
   }
+
+  pub closures-fail : {S : Type 0} (closure : S → F) → ClosuresFail call is_text closure
+  closures-fail closure settings old begins e new (is, same) = absurd (cc)
+  closures-fail closure settings old (matches number offset bytes around) e new
+      (inl (refused, none, is, same)) =
+      let made : refused ≡ e = cc in inl (subst (λ x. is_text bytes (Err x)) made none)
+  closures-fail closure settings old (matches None offset bytes around) e new
+      (inr (text, texts, (refused, other, is, same))) =
+      let made : refused ≡ e = cc in inr (inl (subst (λ x. error_kind x ≡ Other) made other))
+  closures-fail closure settings old (matches (Some number) offset bytes around) e new
+      (inr (text, texts, (passed, same, called))) =
+      inr (inr (number, passed, called))
+  closures-fail closure settings old (context kind number offset bytes) e new (is, same) = absurd (cc)
+  closures-fail closure settings old breaks e new (is, same) = absurd (cc)
+  closures-fail closure settings old (binary_data offset) e new (is, same) = absurd (cc)
+  closures-fail closure settings old (finishes count binary) e new (is, same) = absurd (cc)
 
 -- What is kept of the calls, if each call that returns adds its number and its text.
 module _ {F : Type 0} (call : F → ℕ → Bor (List ℕ) → Result Bool Error → F → Type 0)

@@ -8,6 +8,7 @@ pub mod CountedCallLemmas
 pub mod CutLemmas
 pub mod DetectedRunLemmas
 pub mod DifferenceLemmas
+pub mod FirstByteLemmas
 pub mod GapLemmas
 pub mod HandledLineLemmas
 pub mod HitLineLemmas

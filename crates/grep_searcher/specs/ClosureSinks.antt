@@ -9,7 +9,7 @@ use Rattle.std.specs.declared.io.Error.{Error}
 use Rattle.std.specs.declared.io.ErrorKind.TheVariants.{Other, OutOfMemory}
 use Rattle.grep_report.specs.SearchErrors.{HasText}
 use Rattle.grep_definitions.specs.Plans.{is_across, search_plan, Call, matches, Plan, Steps, IsRun}
-use Rattle.grep_definitions.specs.Plans.{line, Settings}
+use Rattle.grep_definitions.specs.Plans.{line, reported_bytes, Settings}
 use Rattle.grep_definitions.specs.SearchLaws.{match_calls, matched_lines}
 use Rattle.grep_searcher.specs.SinkFolds.{AreTaken}
 use Rattle.grep_matcher.specs.Meanings.{Meaning}
@@ -79,6 +79,15 @@ module _ {F : Type 0} (call : F → ℕ → Bor (List ℕ) → Result Bool Error
       (settings : Settings) (old : S) (plan : Plan) (new : S)
       → IsRun (ClosureSteps closure) settings old plan (Ok tt) new
       → AreCalled (closure old) (match_calls plan.calls) (closure new)
+
+  -- an error of a call: there was no text for the closure, or no number, or the closure was called
+  -- and returned it
+  abbrev pub ClosuresFail : {S : Type 0} → (S → F) → Type 0
+  ClosuresFail {S} closure =
+      (settings : Settings) (old : S) (made : Call) (e : Error) (new : S)
+      → ClosureSteps closure old settings made (Err e) new
+      → is_text (reported_bytes made) (Err e) ⊎ ((error_kind e ≡ Other)
+      ⊎ ((number : ℕ) × (text : Bor (List ℕ)) × call (closure old) number text (Err e) (closure new)))
 
   -- a call of the closure that returns goes on, adds its number and its text to what is kept, and
   -- leaves the name of the reference through which it is kept

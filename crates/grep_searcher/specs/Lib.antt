@@ -9,6 +9,7 @@ pub mod CountedCalls
 pub mod DetectedRuns
 pub mod EveryLines
 pub mod FileSearches
+pub mod FirstByteMatches
 pub mod Gaps
 pub mod HandledLines
 pub mod HeldViews

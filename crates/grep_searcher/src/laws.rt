@@ -2,8 +2,8 @@
 //! first ones are over the definition of those calls alone, the others say what a sink makes of
 //! them.
 ghost use Rattle.std.specs.Str.Lossy.{utf8_lossy};
-ghost use Rattle.grep_searcher.specs.ClosureSinks.{ClosuresAreCalled, ClosuresKeep, IsUtf8Text};
-ghost use Rattle.grep_searcher.specs.ClosureSinks.{IsLossyText, IsWholeText};
+ghost use Rattle.grep_searcher.specs.ClosureSinks.{ClosuresAreCalled, ClosuresFail, ClosuresKeep};
+ghost use Rattle.grep_searcher.specs.ClosureSinks.{IsLossyText, IsUtf8Text, IsWholeText};
 ghost use Rattle.grep_searcher.specs.AppendedItems.{PartsAreItems, RunsAppendHits};
 ghost use Rattle.grep_searcher.specs.AppendedItems.{RunsAppendItems, RunsEnd};
 ghost use Rattle.grep_searcher.specs.AppendedParts.{CallsAppend, RunsAppend, RunsAppendByState};
@@ -19,6 +19,7 @@ ghost use Rattle.grep_searcher.specs.DetectedRuns.{KnownReadersFailWith, KnownRe
 ghost use Rattle.grep_searcher.specs.DetectedRuns.{ReadersFailWith, ReadersRunWith};
 ghost use Rattle.grep_searcher.specs.DetectedRuns.{SlicesFailWith, SlicesRunWith};
 ghost use Rattle.grep_searcher.specs.EveryLines.{AllLinesHit, EveryLineHits};
+ghost use Rattle.grep_searcher.specs.FirstByteMatches.{FirstBytesAreFound, FirstBytesMatchByLine};
 ghost use Rattle.grep_searcher.specs.Gaps.{BreaksAreCounted, BreaksAreFew, BreaksAreGaps};
 ghost use Rattle.grep_searcher.specs.HandledLines.{KnownReadersHandleLines, ReadersHandleLines};
 ghost use Rattle.grep_searcher.specs.HandledLines.{LinesReach, SlicesHandleLines};
@@ -119,6 +120,14 @@ pub fn lines_are_filtered()
 pub fn lines_are_passed()
     ensures lines { LinesArePassed }
     ensures hits { PassedLinesHit }
+{}
+
+/// A matcher whose first match is the first byte that passes a test has a match if any byte passes.
+/// If a line feed doesn't pass, it matches by line (`MatchesByLine`), as a matcher that answers
+/// about many lines by `LineMatchKind::confirm` has to.
+pub fn first_bytes_match_by_line()
+    ensures found { FirstBytesAreFound }
+    ensures by_line { FirstBytesMatchByLine }
 {}
 
 /// In a search by line each line that is reported as a match hits, whatever is set. So without
@@ -349,6 +358,24 @@ pub fn lossy_closures_are_called<F: FnMut(u64, &str) -> Result<bool, io::Error>>
 /// A run of `Bytes` that ended in `Ok` called its closure so, with the bytes as they are.
 pub fn bytes_closures_are_called<F: FnMut(u64, &[u8]) -> Result<bool, io::Error>>(_: &Bytes<F>)
     ensures { ClosuresAreCalled F.step IsWholeText (λ (s : Bytes F). s.0) }
+{}
+
+/// An error of a call of such a sink is that the match isn't UTF-8, or that it has no number, or the
+/// closure was called and returned it.
+pub fn closures_fail<F: FnMut(u64, &str) -> Result<bool, io::Error>>(_: &UTF8<F>)
+    ensures { ClosuresFail F.step IsUtf8Text (λ (s : UTF8 F). s.0) }
+{}
+
+/// An error of a call of `Lossy` is that there was no memory for the text with what is replaced, or
+/// that the match has no number, or the closure was called and returned it.
+pub fn lossy_closures_fail<F: FnMut(u64, &str) -> Result<bool, io::Error>>(_: &Lossy<F>)
+    ensures { ClosuresFail F.step IsLossyText (λ (s : Lossy F). s.0) }
+{}
+
+/// An error of a call of `Bytes` is that the match has no number, or the closure was called and
+/// returned it.
+pub fn bytes_closures_fail<F: FnMut(u64, &[u8]) -> Result<bool, io::Error>>(_: &Bytes<F>)
+    ensures { ClosuresFail F.step IsWholeText (λ (s : Bytes F). s.0) }
 {}
 
 /// If each call of such a closure that returns adds its number and its text to what is kept,

@@ -1,22 +1,15 @@
 -- Lines that have a byte that isn't ASCII.
-use Rattle.std.specs.Prelude.{◌≡◌, ℕ, ◌+◌, Bool, not, false, List, Option, Some, count_by}
+use Rattle.std.specs.Prelude.{◌≡◌, ℕ, Bool, not, false, List, Some, count_by}
 use Rattle.std.specs.Char.{is_ascii}
-use Rattle.std.specs.List.{list_any, position}
-use Rattle.std.specs.Option.{option_map}
+use Rattle.std.specs.List.{list_any}
 use Rattle.std.specs.declared.io.Error.{Error}
 use Rattle.grep_searcher.specs.declared.LineTerminator.TheVariants.{Byte}
+use Rattle.grep_searcher.specs.FirstByteMatches.{first_byte}
 use Rattle.grep_searcher.specs.LineMatches.{MatchesByLine}
 use Rattle.grep_searcher.specs.Lines.{byte_of, lines, strip}
 use Rattle.grep_searcher.specs.Meanings.{MatcherFacts, Meaning}
 use Rattle.grep_searcher.specs.Plans.{Settings}
 use Rattle.grep_searcher.specs.Searches.{searched_bytes}
-
--- a match of one byte, and the first byte of a haystack that passes a test
-abbrev pub one_byte : ℕ → ℕ × ℕ
-one_byte i = (i, i + 1)
-
-abbrev pub first_byte : (ℕ → Bool) → List ℕ → Option (ℕ × ℕ)
-first_byte passes haystack = option_map one_byte (position passes haystack)
 
 abbrev pub is_high : ℕ → Bool
 is_high byte = not (is_ascii byte)

@@ -8,7 +8,7 @@ ghost use Rattle.grep_searcher.specs.SearchFailures.{IsDecodingError};
 ghost use Rattle.uses.specs.NonAsciiLines.{IsNonAsciiCount, is_high, non_ascii};
 
 use crate::count::count_matching_lines;
-use grep_searcher::laws::hits_are_selected;
+use grep_searcher::laws::{first_bytes_match_by_line, hits_are_selected};
 use grep_searcher::{
     BinaryDetection, ByteSet, LineMatchKind, LineTerminator, Match, Matcher, SearchError, Searcher,
 };
@@ -30,6 +30,7 @@ pub fn count_non_ascii_lines(searcher: &mut Searcher, bytes: &[u8]) -> Result<u6
     ensures buffers { searcher.old.has_buffers ≡ true → searcher.new.has_buffers ≡ true }
 {
     hits_are_selected();
+    first_bytes_match_by_line();
     count_matching_lines(searcher, NonAscii, bytes)
 }
 

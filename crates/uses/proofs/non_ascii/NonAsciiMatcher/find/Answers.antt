@@ -1,6 +1,6 @@
 use Rattle.std.proofs.Common.{ap}
 use Rattle.std.specs.Option.{option_map}
-use Rattle.uses.specs.NonAsciiLines.{one_byte}
+use Rattle.grep_searcher.specs.FirstByteMatches.{one_byte}
 use Rattle.uses.proofs.non_ascii.NonAsciiMatcher.find.Goals as goal
 
 pub returns-in-Some-clause-value : goal.returns-in-Some-clause-value

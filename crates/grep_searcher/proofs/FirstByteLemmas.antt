@@ -8,13 +8,14 @@ use Rattle.std.proofs.lemmas.List.Folds.{list_any-append}
 use Rattle.std.proofs.lemmas.List.Quantifiers.{position-Some}
 use Rattle.std.specs.List.{position, position_from, list_any}
 use Rattle.std.specs.Option.{option_map, option_or}
-use Rattle.grep_searcher.specs.declared.LineTerminator.TheVariants.{Byte}
+use Rattle.grep_matcher.specs.declared.line_terminator.LineTerminator.TheVariants.{Byte}
 use Rattle.grep_matcher.proofs.StrippedLineLemmas.{strip-joined}
-use Rattle.grep_searcher.specs.FindResults.{match_from}
-use Rattle.grep_searcher.specs.LineMatches.{IsEndedLine, MatchesByLine}
-use Rattle.grep_searcher.specs.Lines.{strip}
-use Rattle.grep_searcher.specs.Meanings.{Meaning}
-use Rattle.uses.specs.NonAsciiLines.{first_byte, one_byte}
+use Rattle.grep_matcher.specs.FindResults.{match_from}
+use Rattle.grep_matcher.specs.LineMatches.{IsEndedLine, MatchesByLine}
+use Rattle.grep_matcher.specs.Lines.{strip}
+use Rattle.grep_matcher.specs.Meanings.{Meaning}
+use Rattle.grep_searcher.specs.FirstByteMatches.{first_byte, FirstBytesAreFound}
+use Rattle.grep_searcher.specs.FirstByteMatches.{FirstBytesMatchByLine, one_byte}
 
 module _ (passes : ℕ → Bool) where
   -- what is found in two parts is found in the first, or in the second
@@ -78,7 +79,7 @@ module _ (passes : ℕ → Bool) where
   is_some-match None = refl
   is_some-match (Some i) = refl
 
-  pub is_some-any : (bytes : List ℕ) → is_some (first_byte passes bytes) ≡ list_any passes bytes
+  is_some-any : (bytes : List ℕ) → is_some (first_byte passes bytes) ≡ list_any passes bytes
   is_some-any bytes = is_some-match (position passes bytes)
       ∙ (ap is_some (position_from-zero passes bytes) ∙ any-position 0 bytes)
 
@@ -103,7 +104,7 @@ module _ (passes : ℕ → Bool) where
       (λ same. ap (list_any passes) same)
       (strip-joined (Byte 10) line)
 
-  pub first-byte-by-line : passes 10 ≡ false → (meaning : Meaning)
+  first-byte-by-line : passes 10 ≡ false → (meaning : Meaning)
       → ((bytes : List ℕ) → meaning.first bytes ≡ first_byte passes bytes) → MatchesByLine meaning (Byte 10)
   first-byte-by-line fails meaning is = record {
     one_by_one = λ line rest ended. is (line ++ rest) ∙ (ap (option_map one_byte) (position-append line rest)
@@ -114,3 +115,9 @@ module _ (passes : ℕ → Bool) where
     stripped = λ line ended. ap is_some (is (strip (Byte 10) line)) ∙ (is_some-any (strip (Byte 10) line)
         ∙ (any-stripped fails line ∙ sym (ap is_some (is line) ∙ is_some-any line)));
   }
+
+pub first_bytes-are_found : FirstBytesAreFound
+first_bytes-are_found passes bytes = is_some-any passes bytes
+
+pub first_bytes-match_by_line : FirstBytesMatchByLine
+first_bytes-match_by_line passes meaning fails is = first-byte-by-line passes fails meaning is
