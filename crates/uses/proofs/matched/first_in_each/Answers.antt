@@ -11,9 +11,9 @@ first_match-requires g c = let items = c.deref-line-items.ensures.value in
     (grind (arith, common_steps, hit, c.loop-line-test.true, c.line-item.is, items))
 
 pub returns-clause-firsts : goal.returns-clause-firsts
-returns-clause-firsts g c = let meaning = (g.M.Matcher.facts c.args.matcher.now).meaning in
+returns-clause-firsts g c = let ends = c.args.searcher.now.settings.line_terminator in
+    let first = first_in_line ends (g.M.Matcher.facts c.args.matcher.now).meaning in
     let whole : take c.loop-line.line-index c.deref-line-items.result.now ≡ c.in_ok-lines.lines.items =
     grind (arith, common_steps, c.deref-line-items.ensures.value, c.loop-line-test.false) in
-    c.loop-line.invariant ∙ rw c.line_terminator-terminator.ensures (ap (λ vectors. map
-    (first_in_line c.args.searcher.now.settings.line_terminator meaning) (bytes_of_each vectors)) whole
-    ∙ ap (map (first_in_line c.args.searcher.now.settings.line_terminator meaning)) c.in_ok-lines.ensures.lines)
+    c.loop-line.invariant ∙ rw c.line_terminator-terminator.ensures (ap (λ vectors. map first (bytes_of_each vectors))
+    whole ∙ ap (map first) c.in_ok-lines.ensures.lines)
