@@ -13,6 +13,7 @@ pub mod NonAsciiLines
 pub mod NumberedTexts
 pub mod Outlines
 pub mod PathCounts
+pub mod PatternErrors
 pub mod PlainSettings
 pub mod PlannedCalls
 pub mod Prefixes

@@ -45,11 +45,14 @@ first_in_line terminator meaning line = meaning.first (strip terminator line)
 abbrev pub first_in : Meaning → List ℕ → Option (ℕ × ℕ)
 first_in = first_in_line (Byte 10)
 
--- the first match in each line that is reported as a match
+-- the lines that are reported as matches, and the first match in each
+abbrev pub lines_of_matches : Settings → Meaning → List ℕ → List (List ℕ)
+lines_of_matches settings meaning bytes =
+    map reported_bytes (match_calls (search_plan settings meaning bytes).calls)
+
 abbrev pub firsts_in_matches : Settings → Meaning → List ℕ → List (Option (ℕ × ℕ))
 firsts_in_matches settings meaning bytes =
-    map (first_in_line settings.line_terminator meaning)
-    (map reported_bytes (match_calls (search_plan settings meaning bytes).calls))
+    map (first_in_line settings.line_terminator meaning) (lines_of_matches settings meaning bytes)
 
 -- the first line that hits is found in an input that is searched as it is, if there is one; and of
 -- the input, of which this is left, at most so many bytes, and three, were read beyond that line

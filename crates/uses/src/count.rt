@@ -1,12 +1,15 @@
 //! How many lines match.
 ghost use Rattle.std.specs.Prelude.{◌≡◌, ℕ, List, Some, None, true, IfOk, IfErr, IsOk};
-ghost use Rattle.grep_searcher.specs.Plans.{refusal_of};
+ghost use Rattle.grep_searcher.specs.ErrorMakers.{makers_of};
+ghost use Rattle.grep_searcher.specs.KeptFirst.{search_error_makers};
 ghost use Rattle.grep_searcher.specs.LineCounts.{IsLineCount, IsLineSearch};
+ghost use Rattle.grep_searcher.specs.MatcherFailures.{IsLawfulSearch, IsSliceFailure};
 ghost use Rattle.grep_searcher.specs.Meanings.{IsInfallible};
+ghost use Rattle.grep_searcher.specs.Plans.{refusal_of};
 ghost use Rattle.grep_searcher.specs.SearchFailures.{IsDecodingError, IsFaultless};
 ghost use Rattle.grep_searcher.specs.SliceSearches.{is_searched_unchanged};
 
-use grep_searcher::laws::{readers_count_lines, slices_count_lines};
+use grep_searcher::laws::{readers_count_lines, slices_count_lines, slices_fail_for};
 use grep_searcher::sinks::Count;
 use grep_searcher::{Matcher, SearchError, Searcher, Source};
 use std::alloc::Global;
@@ -29,11 +32,15 @@ pub fn count_matching_lines<M: Matcher + Drop>(
     ensures buffers { searcher.old.has_buffers ≡ true → searcher.new.has_buffers ≡ true }
     ensures error { IsFaultless (M.facts matcher) searcher.old.settings
         → IfErr result (IsDecodingError searcher.old (M.facts matcher).meaning bytes.now) }
+    ensures failure { IsLawfulSearch (M.facts matcher) searcher.old.settings → IfErr result
+        (IsSliceFailure (makers_of M.Error.output search_error_makers) (M.facts matcher)
+        searcher.old bytes.now) }
     ensures succeeds { IsInfallible (M.facts matcher).fails
         → refusal_of searcher.old.settings (M.facts matcher).meaning ≡ None
         → is_searched_unchanged searcher.old.settings bytes.now ≡ true → IsOk result }
 {
     let mut matches: Count<SearchError> = Count::new();
+    slices_fail_for::<Global, M, _>(&matches);
     searcher.search_slice(matcher, bytes, &mut matches)?;
     slices_count_lines::<Global, M, SearchError>();
     Ok(matches.count())

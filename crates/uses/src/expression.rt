@@ -1,17 +1,23 @@
 //! How many lines match a regular expression, and which one is the first.
-ghost use Rattle.std.specs.Prelude.{◌≡◌, false, true, ℕ, List, Some, IfOk};
+ghost use Rattle.std.specs.Prelude.{◌≡◌, ◌⊎◌, false, true, ℕ, List, None, Some, IfOk, IfErr};
 ghost use Rattle.grep_regex.specs.LinePatterns.{line_meaning};
+ghost use Rattle.grep_searcher.specs.ErrorMakers.{makers_of};
+ghost use Rattle.grep_searcher.specs.KeptFirst.{search_error_makers};
 ghost use Rattle.grep_searcher.specs.LineCounts.{matched_count};
-ghost use Rattle.grep_searcher.specs.Plans.{is_across};
+ghost use Rattle.grep_searcher.specs.MatcherFailures.{IsSliceFailure};
+ghost use Rattle.grep_searcher.specs.Plans.{is_across, refusal_of};
+ghost use Rattle.grep_searcher.specs.SearchErrors.{IsOutOfMemory};
 ghost use Rattle.grep_searcher.specs.Searches.{searched_bytes};
 ghost use Rattle.uses.specs.MatchedLines.{IsFirstLine};
+ghost use Rattle.uses.specs.PatternErrors.{IsPatternError, line_facts};
 
 use crate::count::count_matching_lines;
 use crate::first::first_line_that_matches;
 use grep_regex::Regex;
 use grep_searcher::sinks::KeptMatch;
 use grep_searcher::{BinaryDetection, SearchError, Searcher, Source};
-use std::alloc::Global;
+use std::alloc::{AllocError, Global};
+use std::fmt::Display;
 
 /// Returns how many lines of `bytes` a pattern matches, as `count_matching_lines` counts them. `^`
 /// and `$` match at the ends of a line, and the matcher declares a line feed as its terminator.
@@ -31,6 +37,10 @@ pub fn count_pattern_lines(
         → searcher.old.settings.binary_detection ≡ BinaryDetection.None → IfOk result (λ count.
         count ≡ matched_count searcher.old.settings (line_meaning pattern.now)
         (searched_bytes searcher.old.settings bytes.now)) }
+    ensures error { refusal_of searcher.old.settings (line_meaning pattern.now) ≡ None
+        → IfErr result (λ e. IsPatternError pattern.now e ⊎ (IsOutOfMemory e
+        ⊎ IsSliceFailure (makers_of ⟦<AllocError as Display>⟧.output search_error_makers)
+        (line_facts pattern.now) searcher.old bytes.now e)) }
     ensures settings { searcher.new.settings ≡ searcher.old.settings }
     ensures buffers { searcher.old.has_buffers ≡ true → searcher.new.has_buffers ≡ true }
 {

@@ -1,5 +1,5 @@
 //! The lines that match, with the first match in each.
-ghost use Rattle.std.specs.Prelude.{◌≡◌, false, true, filter, is_some, map, Some, IfOk, IfErr};
+ghost use Rattle.std.specs.Prelude.{◌≡◌, false, true, All, filter, is_some, map, Some, IfOk, IfErr};
 ghost use Rattle.grep_searcher.specs.LineCounts.{IsLineSearch};
 ghost use Rattle.grep_searcher.specs.Lines.{lines};
 ghost use Rattle.grep_searcher.specs.MatchHandlers.{bytes_of_each};
@@ -9,6 +9,7 @@ ghost use Rattle.grep_searcher.specs.Searches.{searched_bytes};
 ghost use Rattle.grep_searcher.specs.SearchErrors.{is_out_of_memory};
 ghost use Rattle.grep_searcher.specs.SearchFailures.{IsFaultless};
 ghost use Rattle.uses.specs.MatchedLines.{first_in, first_in_line, firsts_in_matches};
+ghost use Rattle.uses.specs.MatchedLines.{lines_of_matches};
 ghost use Rattle.uses.specs.PlainSettings.{as_it_is};
 
 use crate::filter::lines_that_match;
@@ -66,18 +67,39 @@ pub fn first_in_each<M: Matcher>(
     ensures settings { searcher.new.settings ≡ searcher.old.settings }
     ensures buffers { searcher.old.has_buffers ≡ true → searcher.new.has_buffers ≡ true }
 {
-    let mut sink = OnMatch::new(EachLine::new(alloc));
-    searcher.search_slice(matcher, bytes, &mut sink)?;
-    searches_run::<Global, &M, _>(&sink);
-    runs_keep_bytes::<Global>();
-    matched_lines_hit();
-    let lines = sink.into_handler().into_lines();
     let terminator = searcher.line_terminator();
+    let lines = reported_lines(alloc, searcher, matcher, bytes)?;
     let mut firsts = Vec::new(alloc);
     for line in &lines {
         firsts.push(first_match(alloc, matcher, line, terminator)?)?;
     }
     Ok(firsts)
+}
+
+// The lines that are reported as matches, in order. Each has a match without its terminator.
+fn reported_lines<M: Matcher>(
+    alloc: Global,
+    searcher: &mut Searcher,
+    matcher: &M,
+    bytes: &[u8],
+) -> Result<Vec<Vec<u8>>, SearchError>
+    requires by_line { IsLineSearch (M.facts matcher.now) searcher.old.settings }
+    requires plain { searcher.old.settings.invert_match ≡ false }
+    ensures lines { IfOk result (λ lines. bytes_of_each lines.items
+        ≡ lines_of_matches searcher.old.settings (M.facts matcher.now).meaning
+        (searched_bytes searcher.old.settings bytes.now)) }
+    ensures matching { IfOk result (λ lines. All (λ line. is_some (first_in_line
+        searcher.old.settings.line_terminator (M.facts matcher.now).meaning line) ≡ true)
+        (bytes_of_each lines.items)) }
+    ensures settings { searcher.new.settings ≡ searcher.old.settings }
+    ensures buffers { searcher.old.has_buffers ≡ true → searcher.new.has_buffers ≡ true }
+{
+    let mut sink = OnMatch::new(EachLine::new(alloc));
+    searcher.search_slice(matcher, bytes, &mut sink)?;
+    searches_run::<Global, &M, _>(&sink);
+    runs_keep_bytes::<Global>();
+    matched_lines_hit();
+    Ok(sink.into_handler().into_lines())
 }
 
 // The first match in a line that has one without its terminator.
