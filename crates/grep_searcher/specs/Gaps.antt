@@ -1,10 +1,8 @@
--- Where a search by line breaks: between two reports of which the first ends before the second
--- begins.
-use Rattle.std.specs.Prelude.{◌≡◌, ℕ, ◌+◌, ◌<◌, ◌≤◌, nat_lt, false, if◌then◌else◌, List, [], ◌∷◌}
-use Rattle.std.specs.Prelude.{count_by}
+-- Where a search breaks: between two reports of which the first ends before the second begins.
+use Rattle.std.specs.Prelude.{◌≡◌, ℕ, ◌+◌, ◌<◌, ◌≤◌, nat_lt, if◌then◌else◌, List, [], ◌∷◌, count_by}
 use Rattle.grep_matcher.specs.Meanings.{Meaning}
-use Rattle.grep_definitions.specs.Plans.{begins, breaks, Call, is_across, is_break, reported_from}
-use Rattle.grep_definitions.specs.Plans.{search_plan, Settings}
+use Rattle.grep_definitions.specs.Plans.{begins, breaks, Call, is_break, reported_from, search_plan}
+use Rattle.grep_definitions.specs.Plans.{Settings}
 use Rattle.grep_definitions.specs.SearchLaws.{calls_of, report_calls, reported_to}
 
 -- some reports after one that ends at an offset, with a break before each that begins after the end
@@ -31,10 +29,10 @@ abbrev pub gaps : List Call → ℕ
 gaps [] = 0
 gaps (report ∷ later) = gaps_after (reported_to report) later
 
--- by line, with a context, the calls of a plan are `begin` and then the reports, with these breaks
+-- with a context, the calls of a plan are `begin` and then the reports, with these breaks
 abbrev pub BreaksAreGaps : Type 0
 BreaksAreGaps =
-    (settings : Settings) (meaning : Meaning) (bytes : List ℕ) → is_across settings meaning ≡ false
+    (settings : Settings) (meaning : Meaning) (bytes : List ℕ)
     → 0 < settings.after_context + settings.before_context
     → calls_of (search_plan settings meaning bytes).calls
     ≡ begins ∷ with_breaks (report_calls (search_plan settings meaning bytes).calls)
@@ -42,7 +40,7 @@ BreaksAreGaps =
 -- so there are as many breaks as gaps
 abbrev pub BreaksAreCounted : Type 0
 BreaksAreCounted =
-    (settings : Settings) (meaning : Meaning) (bytes : List ℕ) → is_across settings meaning ≡ false
+    (settings : Settings) (meaning : Meaning) (bytes : List ℕ)
     → 0 < settings.after_context + settings.before_context
     → count_by is_break (calls_of (search_plan settings meaning bytes).calls)
     ≡ gaps (report_calls (search_plan settings meaning bytes).calls)
@@ -50,6 +48,6 @@ BreaksAreCounted =
 -- and at most as many as the byte count of the whole plan
 abbrev pub BreaksAreFew : Type 0
 BreaksAreFew =
-    (settings : Settings) (meaning : Meaning) (bytes : List ℕ) → is_across settings meaning ≡ false
+    (settings : Settings) (meaning : Meaning) (bytes : List ℕ)
     → count_by is_break (calls_of (search_plan settings meaning bytes).calls)
     ≤ (search_plan settings meaning bytes).finish.count

@@ -152,10 +152,15 @@ pub fn matches_are_within_count()
     ensures { MatchesAreWithinCount }
 {}
 
-/// By line, with a context before or after matches, the calls of a plan are `begin` and the
-/// reports, with a break in each gap between two: if the second begins after the end of the first.
-/// So there are as many breaks as gaps. With any settings there are at most as many as the byte
-/// count of the whole plan, which is at most as many as there are bytes.
+/// With a context before or after matches, by line and across lines, the calls of a plan are
+/// `begin` and the reports, with a break in each gap between two: if the second begins after the
+/// end of the first. So there are as many breaks as gaps. With any settings there are at most as
+/// many as the byte count of the whole plan, which is at most as many as there are bytes.
+///
+/// For example, `a\nb` is looked for across lines in `a\nb\nx\nx\na\nb\n`, with one line before
+/// matches. The reports are lines 1 and 2 together, line 4, and lines 5 and 6 together. The first
+/// ends at 4 and the second begins at 6, so a break is between them. The second ends at 8, where
+/// the third begins, so none is between these.
 pub fn breaks_are_gaps()
     ensures calls { BreaksAreGaps }
     ensures counted { BreaksAreCounted }
