@@ -1,14 +1,15 @@
 //! How many separators a printer writes.
 ghost use Rattle.std.specs.Prelude.{◌≡◌, ◌+◌, ◌<◌, true, count_by, IfOk, IfErr};
 ghost use Rattle.grep_searcher.specs.Gaps.{gaps};
-ghost use Rattle.grep_searcher.specs.LineCounts.{IsLineSearch};
-ghost use Rattle.grep_searcher.specs.Plans.{is_break};
+ghost use Rattle.grep_searcher.specs.Plans.{is_break, IsLawful};
 ghost use Rattle.grep_searcher.specs.SearchFailures.{IsDecodingError, IsFaultless};
 ghost use Rattle.grep_searcher.specs.SearchLaws.{calls_of, report_calls};
 ghost use Rattle.uses.specs.PlannedCalls.{planned_calls};
 
 use grep_searcher::laws::{breaks_are_gaps, runs_count_exactly, searches_run};
-use grep_searcher::{Matcher, SearchError, Searcher, Sink, SinkContext, SinkFinish, SinkMatch};
+use grep_searcher::{
+    BinaryDetection, Matcher, SearchError, Searcher, Sink, SinkContext, SinkFinish, SinkMatch,
+};
 use std::alloc::{Allocator, Global};
 use std::marker::Model;
 
@@ -16,18 +17,21 @@ use std::marker::Model;
 /// reports in a row of which the first ends before the second begins, since lines were left out
 /// there. Without contexts there is no such place.
 ///
-/// That is promised of a search by line without binary detection, with a matcher that is lawful for
-/// the searcher's terminator. An error is made of the matcher's, of a configuration that the
-/// searcher refuses, or of why bytes that have to be decoded weren't decoded to their end.
+/// That is promised of a search without binary detection, by line or across lines, with a matcher
+/// that is lawful for the searcher's terminator. An error is made of the matcher's, of a
+/// configuration that the searcher refuses, or of why bytes that have to be decoded weren't decoded
+/// to their end.
 pub fn count_gaps<M: Matcher + Drop>(
     searcher: &mut Searcher,
     matcher: M,
     bytes: &[u8],
 ) -> Result<u64, SearchError>
-    ensures breaks { IsLineSearch (M.facts matcher) searcher.old.settings → IfOk result (λ count.
+    ensures breaks { IsLawful (M.facts matcher) searcher.old.settings
+        → searcher.old.settings.binary_detection ≡ BinaryDetection.None → IfOk result (λ count.
         count ≡ count_by is_break (calls_of (planned_calls searcher.old.settings
         (M.facts matcher).meaning bytes.now))) }
-    ensures gaps { IsLineSearch (M.facts matcher) searcher.old.settings
+    ensures gaps { IsLawful (M.facts matcher) searcher.old.settings
+        → searcher.old.settings.binary_detection ≡ BinaryDetection.None
         → 0 < searcher.old.settings.after_context + searcher.old.settings.before_context
         → IfOk result (λ count. count ≡ gaps (report_calls (planned_calls searcher.old.settings
         (M.facts matcher).meaning bytes.now))) }

@@ -5,15 +5,15 @@ use Rattle.grep_searcher.specs.Searches.{searched_bytes}
 use Rattle.uses.proofs.gaps.count_gaps.Goals as goal
 
 pub returns-clause-breaks : goal.returns-clause-breaks
-returns-clause-breaks g c = λ by. let settings = c.args.searcher.now.settings in
+returns-clause-breaks g c = λ lawful none. let settings = c.args.searcher.now.settings in
     c.sink.view_is ∙ c.runs_count_exactly.ensures is_break (λ count. count) (λ _ _. refl) (λ _ _ _ _ _ h. h) _ _ _ _
     refl (c.breaks_are_gaps.ensures.few settings (g.M.Matcher.facts c.args.matcher).meaning
     (searched_bytes settings c.args.bytes.now)) (c.searches_run.ensures c.args.matcher c.args.searcher.now
-    c.args.bytes.now _ _ by.undetected by.lawful c.in_ok-search_slice.ensures.searched)
+    c.args.bytes.now _ _ none lawful c.in_ok-search_slice.ensures.searched)
 
 pub returns-clause-gaps : goal.returns-clause-gaps
-returns-clause-gaps g c = λ by near. let settings = c.args.searcher.now.settings in
-    returns-clause-breaks g c by ∙ c.breaks_are_gaps.ensures.counted settings
+returns-clause-gaps g c = λ lawful none near. let settings = c.args.searcher.now.settings in
+    returns-clause-breaks g c lawful none ∙ c.breaks_are_gaps.ensures.counted settings
     (g.M.Matcher.facts c.args.matcher).meaning (searched_bytes settings c.args.bytes.now) near
 
 pub returns-in_err-search_slice-clause-error : goal.returns-in_err-search_slice-clause-error
