@@ -58,6 +58,21 @@ fn gaps_are_counted(rt: HostRuntime) {
     assert!(rt; matches!(counts_one_gap(rt.alloc()), Ok(true)));
 }
 
+// Across lines: lines 1 and 2 are one report, and so are lines 5 and 6. Line 3 is left out.
+fn counts_gap_across(alloc: Global) -> Result<bool, SearchError> {
+    let mut searcher = SearcherBuilder::new()
+        .multi_line(true)
+        .before_context(1)
+        .build(alloc)?;
+    let matcher = LiteralMatcher::borrowed(b"a\nb");
+    Ok(count_gaps(&mut searcher, matcher, b"a\nb\nx\nx\na\nb\n")? == 1)
+}
+
+#[test]
+fn gaps_across_lines_are_counted(rt: HostRuntime) {
+    assert!(rt; matches!(counts_gap_across(rt.alloc()), Ok(true)));
+}
+
 // Three lines that match begin with an `a`, and one with a `c`.
 fn counts_bytes(alloc: Global) -> Result<bool, SearchError> {
     let mut searcher = Searcher::new(alloc)?;
