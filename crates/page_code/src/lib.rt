@@ -4,6 +4,8 @@
 
 mod buffered;
 mod collected;
+mod colors;
+mod context;
 mod copies;
 mod copy_error;
 mod counted;
@@ -16,7 +18,9 @@ mod ignored;
 mod line_count;
 mod long_lines;
 mod long_matches;
+mod path_printed;
 mod printed;
 mod template;
+mod totals;
 mod windows;
 mod written;
