@@ -10,7 +10,7 @@ fn main(rt: HostRuntime) -> Result<(), SearchError> {
         .before_context(1)
         .after_context(1)
         .build(rt.alloc())?;
-    let matcher = LiteralMatcher::new(rt.alloc(), b"needle")?;
+    let matcher = LiteralMatcher::borrowed(b"needle");
     let mut builder = StandardBuilder::new();
     builder.color_specs(ColorSpecs::Plain);
     let mut printer = builder.build(rt.alloc());

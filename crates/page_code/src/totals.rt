@@ -1,12 +1,10 @@
-//! Writes the lines of a file that have a word as JSON, and then the totals.
-#![tactic(auto)]
-
-use grep_output::{Output, Writing};
-use grep_printer::{Json, JsonBuilder, Stats};
-use grep_searcher::{FindAt, LiteralMatcher, SearchError, Searcher, SearcherBuilder};
+//! What is found in some files as JSON, and then the totals.
+use grep_output::Output;
+use grep_printer::{Json, Stats};
+use grep_searcher::{FindAt, SearchError, Searcher};
 use std::time::Instant;
 
-/// Searches the file at a path, writes the messages about it, and adds what it counts to the totals.
+/// Searches the file at a path, writes the messages about it, and adds its counts to the totals.
 fn print_path<M: FindAt, W: Output>(
     rt: &HostRuntime,
     searcher: &mut Searcher,
@@ -24,23 +22,21 @@ fn print_path<M: FindAt, W: Output>(
     Ok(())
 }
 
-fn main(rt: HostRuntime) -> Result<(), SearchError> {
-    let start = Instant::now(&rt)?;
-    let mut searcher = SearcherBuilder::new().build(rt.alloc())?;
-    let matcher = LiteralMatcher::new(rt.alloc(), b"needle")?;
-    let mut printer = JsonBuilder::new().build(rt.alloc());
-    let mut writer = Writing::new(rt.stdout());
+/// Writes the messages about the files at some paths, and then the totals.
+fn print_paths<M: FindAt, W: Output>(
+    rt: &HostRuntime,
+    searcher: &mut Searcher,
+    matcher: &M,
+    paths: &[&str],
+    printer: &mut Json,
+    writer: &mut W,
+) -> Result<(), SearchError> {
+    let start = Instant::now(rt)?;
     let mut totals = Stats::new();
-    print_path(
-        &rt,
-        &mut searcher,
-        &matcher,
-        "notes.txt",
-        &mut printer,
-        &mut writer,
-        &mut totals,
-    )?;
-    printer.write_summary(&mut writer, &totals, start.elapsed(&rt)?)?;
-    printer.flush(&mut writer)?;
+    for path in paths {
+        print_path(rt, searcher, matcher, path, printer, writer, &mut totals)?;
+    }
+    printer.write_summary(writer, &totals, start.elapsed(rt)?)?;
+    printer.flush(writer)?;
     Ok(())
 }
