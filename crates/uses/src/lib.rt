@@ -16,7 +16,8 @@
 //! `take_lines` the first ones with how many bytes they take, and `count_gaps` counts where lines
 //! were left out between two reports. `count_first_bytes` counts lines by their first byte,
 //! `flag_lines` says of each line whether it matches, and `first_difference` compares the lines of
-//! two slices. `redact` replaces all matches in a slice. `CALLING.md` says which laws they use.
+//! two slices. `redact` replaces all matches in a slice, and `blocks_that_match` keeps the blocks of
+//! lines that matches across lines touch. `CALLING.md` says which laws they use.
 #![tactic(auto)]
 
 mod around;
@@ -45,6 +46,7 @@ mod redaction;
 mod report;
 mod taken;
 mod totals;
+mod units;
 
 pub use around::first_with_context;
 pub use between::lines_between;
@@ -71,3 +73,4 @@ pub use redaction::redact;
 pub use report::{in_context, reporter};
 pub use taken::take_lines;
 pub use totals::count_in_paths;
+pub use units::blocks_that_match;
