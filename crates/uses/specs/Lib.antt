@@ -3,6 +3,7 @@ pub mod AcrossSettings
 pub mod Differences
 pub mod FirstAround
 pub mod FirstBytes
+pub mod GroupTexts
 pub mod IoFailures
 pub mod JsonLines
 pub mod LineFlags

@@ -16,8 +16,10 @@
 //! `take_lines` the first ones with how many bytes they take, and `count_gaps` counts where lines
 //! were left out between two reports. `count_first_bytes` counts lines by their first byte,
 //! `flag_lines` says of each line whether it matches, and `first_difference` compares the lines of
-//! two slices. `redact` replaces all matches in a slice, and `blocks_that_match` keeps the blocks of
-//! lines that matches across lines touch. `CALLING.md` says which laws they use.
+//! two slices. `redact` replaces all matches in a slice, `blocks_that_match` keeps the blocks of
+//! lines that matches across lines touch, `texts_of_group` has the text of a group in each line that
+//! matches, and `groups_of_match` the groups of a match that was found before. `CALLING.md` says
+//! which laws they use.
 #![tactic(auto)]
 
 mod around;
@@ -32,6 +34,7 @@ mod filter;
 mod first;
 mod flags;
 mod gaps;
+mod groups;
 mod json;
 mod last;
 mod longest;
@@ -60,6 +63,7 @@ pub use filter::lines_that_match;
 pub use first::{first_line_that_matches, first_matches};
 pub use flags::flag_lines;
 pub use gaps::count_gaps;
+pub use groups::{groups_of_match, texts_of_group};
 pub use json::json_lines;
 pub use last::last_matches;
 pub use longest::longest_line;
