@@ -7,6 +7,7 @@ pub mod GroupTexts
 pub mod IoFailures
 pub mod JsonLines
 pub mod LineFlags
+pub mod LinesBefore
 pub mod LongestLines
 pub mod MarkedBlocks
 pub mod MarkedCalls

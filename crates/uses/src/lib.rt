@@ -16,13 +16,15 @@
 //! `take_lines` the first ones with how many bytes they take, and `count_gaps` counts where lines
 //! were left out between two reports. `count_first_bytes` counts lines by their first byte,
 //! `flag_lines` says of each line whether it matches, and `first_difference` compares the lines of
-//! two slices. `redact` replaces all matches in a slice, `blocks_that_match` keeps the blocks of
-//! lines that matches across lines touch, `texts_of_group` has the text of a group in each line that
-//! matches, and `groups_of_match` the groups of a match that was found before. `CALLING.md` says
-//! which laws they use.
+//! two slices. `redact` replaces all matches in a slice. `lines_before_match` says how many lines of
+//! a reader come before the first that matches, `blocks_that_match` keeps the blocks of lines that
+//! matches across lines touch, `texts_of_group` has the text of a group in each line that matches,
+//! and `groups_of_match` the groups of a match that was found before. `CALLING.md` says which laws
+//! they use.
 #![tactic(auto)]
 
 mod around;
+mod before;
 mod between;
 mod blocks;
 mod bytes;
@@ -52,6 +54,7 @@ mod totals;
 mod units;
 
 pub use around::first_with_context;
+pub use before::lines_before_match;
 pub use between::lines_between;
 pub use blocks::count_blocks;
 pub use bytes::count_first_bytes;
