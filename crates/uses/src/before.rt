@@ -16,8 +16,8 @@ use grep_searcher::sinks::{First, KeptMatch, OnMatch};
 use grep_searcher::{Matcher, SearchError, Searcher, Source};
 use std::alloc::Global;
 
-/// Returns how many lines of what a reader gives, decoded, come before the first selected one;
-/// `None` if no line is selected. The search ends at that line.
+/// Returns how many lines of what a reader gives, decoded, come before the first selected one, or
+/// `None` if no line is selected.
 ///
 /// That is promised of a reader that says which bytes it has, and of a search by line that numbers
 /// lines, without binary detection, with a matcher that is lawful for the searcher's terminator.
