@@ -15,8 +15,9 @@ use grep_searcher::{BinaryDetection, Matcher, SearchError, Searcher};
 use std::alloc::Global;
 
 /// Returns the blocks of lines of `bytes`, decoded, that match if a match may extend over several
-/// lines: runs of selected lines, as long as possible. Each block has the number of its first line,
-/// the offset of that line, and the bytes of all its lines.
+/// lines: runs of selected lines, as long as possible. Under inversion each selected line is a
+/// block. A block has the number of its first line, the offset of that line, and the bytes of all
+/// its lines.
 ///
 /// That is promised of a search across lines without binary detection, with a matcher that is
 /// lawful for the searcher's terminator.
