@@ -1,20 +1,23 @@
-//! The groups of a match, and the text of a group in each line that matches.
-ghost use Rattle.std.specs.Prelude.{◌≡◌, ◌≤◌, ◌⊎◌, ℕ, true, filter, is_some, length, map, Some};
+//! The groups of a match, and of each match; and the text of a group in each line that matches.
+ghost use Rattle.std.specs.Prelude.{◌≡◌, ◌⊎◌, ℕ, true, filter, is_some, length, map, Some};
 ghost use Rattle.std.specs.Prelude.{IfOk, IfErr};
+ghost use Rattle.grep_replace.specs.MatchedParts.{all_parts};
 ghost use Rattle.grep_searcher.specs.ErrorMakers.{makers_of};
 ghost use Rattle.grep_searcher.specs.KeptFirst.{search_error_makers};
 ghost use Rattle.grep_searcher.specs.Lines.{lines};
 ghost use Rattle.grep_searcher.specs.MatchHandlers.{bytes_of_each};
+ghost use Rattle.grep_searcher.specs.MatcherFailures.{FailsAtQuestion};
 ghost use Rattle.grep_searcher.specs.MatcherFailures.{IsLawfulSearch, IsSliceFailure};
 ghost use Rattle.grep_searcher.specs.Plans.{IsLawful};
-ghost use Rattle.grep_searcher.specs.SearchErrors.{is_out_of_memory};
+ghost use Rattle.grep_searcher.specs.SearchErrors.{IsOutOfMemory, is_out_of_memory};
 ghost use Rattle.uses.specs.GroupTexts.{text_in_line};
 ghost use Rattle.uses.specs.MatchedLines.{first_in};
 ghost use Rattle.uses.specs.PlainSettings.{as_it_is};
 
 use crate::filter::lines_that_match;
-use grep_replace::CapturesAt;
-use grep_searcher::{LineTerminator, Match, SearchError, without_terminator};
+use grep_replace::laws::all_parts_are_found;
+use grep_replace::{CapturesAt, PartsError, find_parts};
+use grep_searcher::{LineTerminator, Match, SearchError, SinkError, without_terminator};
 use std::alloc::{AllocError, Global};
 
 /// Returns the text of a group in each line of `bytes` in which a matcher has a match, in order: of
@@ -65,23 +68,57 @@ fn text_of_group<M: CapturesAt>(
     }
 }
 
+/// Returns the groups of each match in some bytes, in order: each if it takes part in the match. The
+/// first group is the match itself. A match may extend over several lines. These are the matches
+/// that `replace_all` of grep_replace replaces.
+///
+/// The matcher may fail, as each one of a regular expression may. An error is made of the
+/// matcher's, as a message, or it is of being out of memory.
+pub fn groups_of_each<M: CapturesAt>(
+    alloc: Global,
+    matcher: &M,
+    bytes: &[u8],
+) -> Result<Vec<Vec<Option<Match>>>, SearchError>
+    ensures groups { IfOk result (λ each. map (λ groups. groups.items) each.items
+        ≡ map (λ part. M.groups_at matcher.now bytes.now part.0)
+        (all_parts (M.first_at matcher.now bytes.now) (length bytes.now))) }
+    ensures error { IfErr result (λ e. IsOutOfMemory e
+        ⊎ FailsAtQuestion (makers_of M.Error.output search_error_makers) (M.facts matcher.now) e) }
+{
+    let mut parts = Vec::new(alloc);
+    match find_parts(&mut parts, matcher, bytes, 0, bytes.len() + 1) {
+        Ok(()) => {}
+        Err(PartsError::Memory) => return Err(SearchError::from(AllocError)),
+        Err(PartsError::Matcher(error)) => return Err(SearchError::error_message(alloc, error)),
+    }
+    all_parts_are_found::<M>();
+    let mut each = Vec::new(alloc);
+    for part in &parts {
+        each.push(groups_of_match(alloc, matcher, bytes, *part)?)?;
+    }
+    Ok(each)
+}
+
 /// Returns the groups of a match that was found before, such as one that `find_at` returned. They
 /// are those of the first match from any position, as long as that is this match. So the matcher is
 /// asked at the start of the match, and nothing before it is searched again.
 ///
-/// The caller ensures that the match starts in the line, or at its end. The only error is being out
-/// of memory.
+/// The only error is being out of memory.
 pub fn groups_of_match<M: CapturesAt>(
     alloc: Global,
     matcher: &M,
-    line: &[u8],
+    bytes: &[u8],
     found: Match,
 ) -> Result<Vec<Option<Match>>, AllocError>
-    requires { found.0 ≤ length line.now }
-    ensures { (position : ℕ) → M.first_at matcher.now line.now position ≡ Some found
-        → IfOk result (λ groups. groups.items ≡ M.groups_at matcher.now line.now position) }
+    ensures groups { IfOk result
+        (λ groups. groups.items ≡ M.groups_at matcher.now bytes.now found.0) }
+    ensures from_before { (position : ℕ) → M.first_at matcher.now bytes.now position ≡ Some found
+        → IfOk result (λ groups. groups.items ≡ M.groups_at matcher.now bytes.now position) }
 {
     let mut groups = Vec::new(alloc);
-    matcher.captures_at(line, found.start(), &mut groups)?;
+    if found.start() > bytes.len() {
+        return Ok(groups);
+    }
+    matcher.captures_at(bytes, found.start(), &mut groups)?;
     Ok(groups)
 }

@@ -19,8 +19,8 @@
 //! two slices. `redact` replaces all matches in a slice. `lines_before_match` says how many lines of
 //! a reader come before the first that matches, `blocks_that_match` keeps the blocks of lines that
 //! matches across lines touch, `texts_of_group` has the text of a group in each line that matches,
-//! and `groups_of_match` the groups of a match that was found before. `CALLING.md` says which laws
-//! they use.
+//! `groups_of_each` the groups of each match in a slice, and `groups_of_match` those of a match that
+//! was found before. `CALLING.md` says which laws they use.
 #![tactic(auto)]
 
 mod around;
@@ -66,7 +66,7 @@ pub use filter::lines_that_match;
 pub use first::{first_line_that_matches, first_matches};
 pub use flags::flag_lines;
 pub use gaps::count_gaps;
-pub use groups::{groups_of_match, texts_of_group};
+pub use groups::{groups_of_each, groups_of_match, texts_of_group};
 pub use json::json_lines;
 pub use last::last_matches;
 pub use longest::longest_line;

@@ -3,7 +3,7 @@ use grep_regex::Regex;
 use grep_replace::{CapturesAt, Template, find_parts, replace_all, replace_lines};
 use grep_searcher::{FindAt, LineTerminator, SearchError};
 use std::alloc::Global;
-use uses::{groups_of_match, redact, texts_of_group};
+use uses::{groups_of_each, groups_of_match, redact, texts_of_group};
 
 // A pattern, some bytes, where to begin, a limit, and where the parts start and end.
 const PART_ROWS: &[(&str, &[u8], usize, usize, &[(usize, usize)])] = &[
@@ -211,10 +211,21 @@ fn has_group<M: CapturesAt>(alloc: Global, matcher: &M) -> bool {
     }
 }
 
+// Whether there are two matches, each with a group 0 and a group 1.
+fn have_groups<M: CapturesAt>(alloc: Global, matcher: &M) -> bool {
+    match groups_of_each(alloc, matcher, b"a=b, c=d") {
+        Ok(each) => match each.as_slice() {
+            [first, second] => first.len() == 2 && second.len() == 2,
+            _ => false,
+        },
+        Err(_) => false,
+    }
+}
+
 fn finds_groups(alloc: Global) -> Result<bool, SearchError> {
     let regex = Regex::new(alloc, r"(\w)=\w")?;
     let matcher = regex.matcher(alloc)?;
-    Ok(has_group(alloc, &matcher))
+    Ok(has_group(alloc, &matcher) && have_groups(alloc, &matcher))
 }
 
 #[test]
