@@ -1,23 +1,21 @@
 //! How many lines come before the first that matches.
-ghost use Rattle.std.specs.Prelude.{◌≡◌, ◌⊎◌, true, ℕ, List, Some, IfOk, IfErr};
+ghost use Rattle.std.specs.Prelude.{◌≡◌, ◌⊎◌, true, ℕ, List, slice_get, Some, IfOk, IfErr};
 ghost use Rattle.grep_searcher.specs.ErrorMakers.{makers_of};
 ghost use Rattle.grep_searcher.specs.KeptFirst.{search_error_makers};
 ghost use Rattle.grep_searcher.specs.LineCounts.{IsLineSearch};
 ghost use Rattle.grep_searcher.specs.MatcherFailures.{FailsAtQuestion, IsLawfulSearch};
-ghost use Rattle.grep_searcher.specs.Plans.{first_below, is_selected, line_count};
 ghost use Rattle.grep_searcher.specs.SearchErrors.{IsOutOfMemory};
+ghost use Rattle.grep_searcher.specs.SearchLaws.{matched_lines};
 ghost use Rattle.grep_searcher.specs.Searches.{EndsUnread, searched_bytes};
 ghost use Rattle.uses.specs.LinesBefore.{lines_before};
 
-use grep_searcher::laws::{
-    first_match_is_first, known_readers_run, readers_fail_for, runs_keep_first,
-};
+use grep_searcher::laws::{known_readers_run, readers_fail_for, runs_keep_first};
 use grep_searcher::sinks::{First, KeptMatch, OnMatch};
 use grep_searcher::{Matcher, SearchError, Searcher, Source};
 use std::alloc::Global;
 
-/// Returns how many lines of what a reader gives, decoded, come before the first selected one, or
-/// `None` if no line is selected.
+/// Returns how many lines of what a reader gives, decoded, come before the first matched one, or
+/// `None` if no line is matched.
 ///
 /// That is promised of a reader that says which bytes it has, and of a search by line that numbers
 /// lines, without binary detection, with a matcher that is lawful for the searcher's terminator.
@@ -34,9 +32,8 @@ pub fn lines_before_match<M: Matcher + Drop, R: Source>(
     ensures before { (input : List ℕ) → R.remaining reader.old ≡ Some input
         → IsLineSearch (M.facts matcher) searcher.old.settings
         → searcher.old.settings.line_number ≡ true → IfOk result (λ before.
-        let decoded = searched_bytes searcher.old.settings input in
-        before ≡ first_below (is_selected searcher.old.settings (M.facts matcher).meaning decoded)
-        (line_count searcher.old.settings decoded)) }
+        before ≡ slice_get (matched_lines searcher.old.settings (M.facts matcher).meaning
+        (searched_bytes searcher.old.settings input)) 0) }
     ensures error { IsLawfulSearch (M.facts matcher) searcher.old.settings → IfErr result (λ e.
         IsOutOfMemory e
         ⊎ (FailsAtQuestion (makers_of M.Error.output search_error_makers) (M.facts matcher) e
@@ -50,7 +47,6 @@ pub fn lines_before_match<M: Matcher + Drop, R: Source>(
     searcher.search_reader(matcher, reader, &mut sink)?;
     known_readers_run::<Global, M, R, _>(&sink);
     runs_keep_first::<Global>();
-    first_match_is_first();
     Ok(count_before(sink.into_handler().into_first()))
 }
 

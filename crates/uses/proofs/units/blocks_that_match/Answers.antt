@@ -1,4 +1,4 @@
-use Rattle.std.proofs.Common.{ap, inl, inr, map, ⊎_elim, ◌∙◌}
+use Rattle.std.proofs.Common.{ap, inl, inr, map, ◌∙◌}
 use Rattle.std.proofs.lemmas.Result.{err_from_is_err_and}
 use Rattle.grep_searcher.specs.MatchHandlers.{kept_of}
 use Rattle.grep_searcher.specs.Searches.{searched_bytes}
@@ -15,5 +15,5 @@ returns-clause-blocks g c = λ lawful undetected across. let settings = c.args.s
 pub returns-in_err-search_slice-clause-error : goal.returns-in_err-search_slice-clause-error
 returns-in_err-search_slice-clause-error g c = λ sound.
     let error = err_from_is_err_and c.from_residual.result c.from_residual.ensures.1 in rw (error.1, error.2)
-    (⊎_elim (λ step. inl step.2.1.0) inr (c.slices_fail_for.ensures c.args.matcher c.args.searcher.now
-    c.args.bytes.now _ _ _ sound c.in_err-search_slice.ensures.searched))
+    (elim (c.slices_fail_for.ensures c.args.matcher c.args.searcher.now c.args.bytes.now _ _ _ sound
+    c.in_err-search_slice.ensures.searched) [ inl step ↦ inl step.2.1.0 | inr other ↦ inr other ])
