@@ -82,8 +82,8 @@ pub fn groups_of_each<M: CapturesAt>(
     ensures groups { IfOk result (λ each. map (λ groups. groups.items) each.items
         ≡ map (λ part. M.groups_at matcher.now bytes.now part.0)
         (all_parts (M.first_at matcher.now bytes.now) (length bytes.now))) }
-    ensures error { IfErr result (λ e. IsOutOfMemory e
-        ⊎ FailsAtQuestion (makers_of M.Error.output search_error_makers) (M.facts matcher.now) e) }
+    ensures error { IfErr result (λ e. IsOutOfMemory e ⊎ FailsAtQuestion
+        (makers_of M.Error.output search_error_makers) (M.facts matcher.now) e) }
 {
     let mut parts = Vec::new(alloc);
     match find_parts(&mut parts, matcher, bytes, 0, bytes.len() + 1) {
