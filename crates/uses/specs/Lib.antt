@@ -3,9 +3,11 @@ pub mod AcrossSettings
 pub mod Differences
 pub mod FirstAround
 pub mod FirstBytes
+pub mod GroupTexts
 pub mod IoFailures
 pub mod JsonLines
 pub mod LineFlags
+pub mod LinesBefore
 pub mod LongestLines
 pub mod MarkedBlocks
 pub mod MarkedCalls

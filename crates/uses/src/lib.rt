@@ -16,10 +16,15 @@
 //! `take_lines` the first ones with how many bytes they take, and `count_gaps` counts where lines
 //! were left out between two reports. `count_first_bytes` counts lines by their first byte,
 //! `flag_lines` says of each line whether it matches, and `first_difference` compares the lines of
-//! two slices. `redact` replaces all matches in a slice. `CALLING.md` says which laws they use.
+//! two slices. `redact` replaces all matches in a slice. `lines_before_match` says how many lines of
+//! a reader come before the first that matches, `blocks_that_match` keeps the blocks of lines that
+//! matches across lines touch, `texts_of_group` has the text of a group in each line that matches,
+//! `groups_of_each` the groups of each match in a slice, and `groups_of_match` those of a match that
+//! was found before. `CALLING.md` says which laws they use.
 #![tactic(auto)]
 
 mod around;
+mod before;
 mod between;
 mod blocks;
 mod bytes;
@@ -31,6 +36,7 @@ mod filter;
 mod first;
 mod flags;
 mod gaps;
+mod groups;
 mod json;
 mod last;
 mod longest;
@@ -45,8 +51,10 @@ mod redaction;
 mod report;
 mod taken;
 mod totals;
+mod units;
 
 pub use around::first_with_context;
+pub use before::lines_before_match;
 pub use between::lines_between;
 pub use blocks::count_blocks;
 pub use bytes::count_first_bytes;
@@ -58,6 +66,7 @@ pub use filter::lines_that_match;
 pub use first::{first_line_that_matches, first_matches};
 pub use flags::flag_lines;
 pub use gaps::count_gaps;
+pub use groups::{groups_of_each, groups_of_match, texts_of_group};
 pub use json::json_lines;
 pub use last::last_matches;
 pub use longest::longest_line;
@@ -71,3 +80,4 @@ pub use redaction::redact;
 pub use report::{in_context, reporter};
 pub use taken::take_lines;
 pub use totals::count_in_paths;
+pub use units::blocks_that_match;

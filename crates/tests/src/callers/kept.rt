@@ -1,9 +1,12 @@
 //! The callers of `uses` that keep the last matches, the first line of a pattern, the lines between
-//! two marks, and the lines that match with their first matches.
+//! two marks, the blocks of lines that match, and the lines that match with their first matches.
 use grep_searcher::sinks::KeptMatch;
-use grep_searcher::{LiteralMatcher, Match, SearchError, Searcher};
+use grep_searcher::{LiteralMatcher, Match, SearchError, Searcher, SearcherBuilder};
 use std::alloc::Global;
-use uses::{first_in_each, first_pattern_line, last_matches, lines_between, matches_in_lines};
+use uses::{
+    blocks_that_match, first_in_each, first_pattern_line, last_matches, lines_between,
+    matches_in_lines,
+};
 
 // Line 2, line 4 and line 5 have an `a`.
 const INPUT: &[u8] = b"x\nab\ny\nba\nca";
@@ -62,6 +65,32 @@ fn keeps_blocks(alloc: Global) -> Result<bool, SearchError> {
 #[test]
 fn blocks_are_kept(rt: HostRuntime) {
     assert!(rt; matches!(keeps_blocks(rt.alloc()), Ok(true)));
+}
+
+// Lines 1 and 2 are a block, and so are lines 4 to 6, in which two matches share a line.
+const SPREAD: &[u8] = b"xb\nay\nz\nb\nab\na\n";
+
+fn are_blocks(blocks: &[KeptMatch]) -> bool {
+    match blocks {
+        [first, second] => {
+            first.bytes() == b"xb\nay\n".as_slice()
+                && second.line_number() == Some(4)
+                && second.bytes() == b"b\nab\na\n".as_slice()
+        }
+        _ => false,
+    }
+}
+
+fn keeps_blocks_across(alloc: Global) -> Result<bool, SearchError> {
+    let mut searcher = SearcherBuilder::new().multi_line(true).build(alloc)?;
+    let matcher = LiteralMatcher::borrowed(b"b\na");
+    let blocks = blocks_that_match(alloc, &mut searcher, matcher, SPREAD)?;
+    Ok(are_blocks(&blocks))
+}
+
+#[test]
+fn blocks_across_lines_are_kept(rt: HostRuntime) {
+    assert!(rt; matches!(keeps_blocks_across(rt.alloc()), Ok(true)));
 }
 
 // Whether these are `ab`, with a match at its end, and `ba`, with one at its start.

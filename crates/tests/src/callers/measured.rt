@@ -1,10 +1,13 @@
 //! The callers of `uses` that measure what matches: the longest line, the first lines with how many
 //! bytes they take, the gaps between what is reported, how many lines begin with each byte, which
-//! lines match, and where two inputs first differ.
+//! lines match, how many come before the first that matches, and where two inputs first differ.
 use grep_searcher::sinks::KeptMatch;
 use grep_searcher::{LiteralMatcher, SearchError, Searcher, SearcherBuilder};
 use std::alloc::Global;
-use uses::{count_first_bytes, count_gaps, first_difference, flag_lines, longest_line, take_lines};
+use uses::{
+    count_first_bytes, count_gaps, first_difference, flag_lines, lines_before_match, longest_line,
+    take_lines,
+};
 
 // Line 1, line 3, line 4 and line 8 have an `a`. Lines 3 and 4 are the longest of them.
 const INPUT: &[u8] = b"a\nlong\nabc\ncab\ny\ny\ny\na";
@@ -115,4 +118,22 @@ fn no_difference_is_found(rt: HostRuntime) {
 #[test]
 fn missing_lines_differ(rt: HostRuntime) {
     assert!(rt; matches!(differs_at(rt.alloc(), b"a\nabc\n", Some(2)), Ok(true)));
+}
+
+// Whether this many lines come before the first with a literal.
+fn counts_before(alloc: Global, literal: &[u8], before: Option<u64>) -> Result<bool, SearchError> {
+    let mut searcher = Searcher::new(alloc)?;
+    let mut reader: &[u8] = INPUT;
+    let matcher = LiteralMatcher::borrowed(literal);
+    Ok(lines_before_match(alloc, &mut searcher, matcher, &mut reader)? == before)
+}
+
+#[test]
+fn lines_before_are_counted(rt: HostRuntime) {
+    assert!(rt; matches!(counts_before(rt.alloc(), b"o", Some(1)), Ok(true)));
+}
+
+#[test]
+fn no_line_is_found(rt: HostRuntime) {
+    assert!(rt; matches!(counts_before(rt.alloc(), b"z", None), Ok(true)));
 }

@@ -1,9 +1,9 @@
-//! All matches in some bytes: found, and replaced.
+//! All matches in some bytes: found, and replaced; and the groups of a match.
 use grep_regex::Regex;
 use grep_replace::{CapturesAt, Template, find_parts, replace_all, replace_lines};
 use grep_searcher::{FindAt, LineTerminator, SearchError};
 use std::alloc::Global;
-use uses::redact;
+use uses::{groups_of_each, groups_of_match, redact, texts_of_group};
 
 // A pattern, some bytes, where to begin, a limit, and where the parts start and end.
 const PART_ROWS: &[(&str, &[u8], usize, usize, &[(usize, usize)])] = &[
@@ -174,4 +174,61 @@ fn hides(alloc: Global) -> Result<bool, SearchError> {
 #[test]
 fn matches_are_hidden(rt: HostRuntime) {
     assert!(rt; matches!(hides(rt.alloc()), Ok(true)));
+}
+
+// Whether these are the texts of group 2: `01`, and nothing where the group takes no part.
+fn are_texts(texts: &[Vec<u8>]) -> bool {
+    match texts {
+        [day, none] => day.as_slice() == b"01".as_slice() && none.is_empty(),
+        _ => false,
+    }
+}
+
+fn finds_texts(alloc: Global) -> Result<bool, SearchError> {
+    let regex = Regex::for_lines(alloc, r"(\d+)-(\d+)?")?;
+    let matcher = regex.matcher(alloc)?;
+    let texts = texts_of_group(alloc, &matcher, b"on 12-01\nnever\n12-\n", 2)?;
+    Ok(are_texts(&texts))
+}
+
+#[test]
+fn texts_of_groups_are_found(rt: HostRuntime) {
+    assert!(rt; matches!(finds_texts(rt.alloc()), Ok(true)));
+}
+
+// Whether group 1 of the first match from 2 on is where it has to be.
+fn has_group<M: CapturesAt>(alloc: Global, matcher: &M) -> bool {
+    let line = b"a=b, c=d".as_slice();
+    match matcher.find_at(line, 2) {
+        Ok(Some(found)) => match groups_of_match(alloc, matcher, line, found) {
+            Ok(groups) => match groups.get(1) {
+                Some(Some(group)) => group.start() == 5 && group.end() == 6,
+                _ => false,
+            },
+            Err(_) => false,
+        },
+        _ => false,
+    }
+}
+
+// Whether there are two matches, each with a group 0 and a group 1.
+fn have_groups<M: CapturesAt>(alloc: Global, matcher: &M) -> bool {
+    match groups_of_each(alloc, matcher, b"a=b, c=d") {
+        Ok(each) => match each.as_slice() {
+            [first, second] => first.len() == 2 && second.len() == 2,
+            _ => false,
+        },
+        Err(_) => false,
+    }
+}
+
+fn finds_groups(alloc: Global) -> Result<bool, SearchError> {
+    let regex = Regex::new(alloc, r"(\w)=\w")?;
+    let matcher = regex.matcher(alloc)?;
+    Ok(has_group(alloc, &matcher) && have_groups(alloc, &matcher))
+}
+
+#[test]
+fn groups_of_matches_are_found(rt: HostRuntime) {
+    assert!(rt; matches!(finds_groups(rt.alloc()), Ok(true)));
 }

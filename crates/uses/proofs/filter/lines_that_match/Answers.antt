@@ -1,4 +1,4 @@
-use Rattle.std.proofs.Common.{map, refl, sym, inl, ap, ⊎_elim, ◌∙◌}
+use Rattle.std.proofs.Common.{map, refl, sym, inl, inr, ap, ⊎_elim, ◌∙◌}
 use Rattle.std.proofs.lemmas.Bool.{false≢true}
 use Rattle.std.proofs.lemmas.Result.{err_from_is_err_and}
 use Rattle.std.specs.Prelude.{is_some}
@@ -21,4 +21,10 @@ returns-in_err-search_slice-clause-error g c = λ sound. let residual = c.from_r
     let error = err_from_is_err_and residual.result residual.ensures.1 in rw (error.1, error.2)
     (⊎_elim (λ step. rw (step.2.1.0.1, step.2.1.0.2) refl) (λ undecoded. absurd (false≢true (sym undecoded.3.0
     ∙ c.input_is_searched.ensures.unchanged as_it_is _ refl refl))) (c.slices_fail.ensures _ _ _ _ _ _ sound
+    (rw c.in_ok-searcher.ensures.settings at c.in_err-search_slice.ensures.searched)))
+
+pub returns-in_err-search_slice-clause-failure : goal.returns-in_err-search_slice-clause-failure
+returns-in_err-search_slice-clause-failure g c = λ sound. let residual = c.from_residual-in_err-search_slice in
+    let error = err_from_is_err_and residual.result residual.ensures.1 in rw (error.1, error.2)
+    (⊎_elim (λ step. inl (rw (step.2.1.0.1, step.2.1.0.2) refl)) inr (c.slices_fail_for.ensures _ _ _ _ _ _ sound
     (rw c.in_ok-searcher.ensures.settings at c.in_err-search_slice.ensures.searched)))
