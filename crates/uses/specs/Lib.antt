@@ -5,7 +5,9 @@ pub mod FirstAround
 pub mod FirstBytes
 pub mod IoFailures
 pub mod JsonLines
+pub mod LabelledLines
 pub mod LineFlags
+pub mod LineSpans
 pub mod LongestLines
 pub mod MarkedBlocks
 pub mod MarkedCalls

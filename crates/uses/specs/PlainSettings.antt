@@ -1,5 +1,5 @@
 -- The settings of a search of an input as it is.
-use Rattle.std.specs.Prelude.{ℕ, false, Some}
+use Rattle.std.specs.Prelude.{ℕ, false, true, Some}
 use Rattle.grep_searcher.specs.BuiltSettings.{default_settings}
 use Rattle.grep_searcher.specs.Plans.{Settings}
 
@@ -14,3 +14,7 @@ limited_to limit = record as_it_is { max_matches = Some limit }
 -- or at most this many bytes are held, lines and all
 abbrev pub held_to : ℕ → Settings
 held_to limit = record as_it_is { heap_limit = Some limit }
+
+-- or the lines that don't match are selected
+abbrev pub inverted : Settings
+inverted = record as_it_is { invert_match = true }

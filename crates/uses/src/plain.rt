@@ -3,7 +3,7 @@ ghost use Rattle.std.specs.Prelude.{◌≡◌, ℕ, List, false, true, None, IfO
 ghost use Rattle.grep_searcher.specs.Plans.{Settings};
 ghost use Rattle.grep_searcher.specs.Searches.{searched_bytes};
 ghost use Rattle.grep_searcher.specs.SliceSearches.{is_searched_unchanged};
-ghost use Rattle.uses.specs.PlainSettings.{as_it_is, held_to, limited_to};
+ghost use Rattle.uses.specs.PlainSettings.{as_it_is, held_to, inverted, limited_to};
 
 use grep_searcher::laws::unchanged_is_searched;
 use grep_searcher::{ConfigError, Searcher, SearcherBuilder};
@@ -51,5 +51,17 @@ pub(crate) fn searcher_limited_to(alloc: Global, limit: u64) -> Result<Searcher,
     SearcherBuilder::new()
         .bom_sniffing(false)
         .max_matches(Some(limit))
+        .build(alloc)
+}
+
+// One that searches for the lines that don't match.
+pub(crate) fn searcher_inverted(alloc: Global) -> Result<Searcher, ConfigError>
+    ensures settings { IfOk result (λ searcher.
+        searcher ≡ record { settings = inverted; has_buffers = true }) }
+    ensures error { IfErr result (λ e. e ≡ ConfigError.Memory) }
+{
+    SearcherBuilder::new()
+        .bom_sniffing(false)
+        .invert_match(true)
         .build(alloc)
 }
