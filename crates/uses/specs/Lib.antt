@@ -19,4 +19,5 @@ pub mod PatternErrors
 pub mod PlainSettings
 pub mod PlannedCalls
 pub mod Prefixes
+pub mod ReaderFailures
 pub mod TakenLines
