@@ -7,11 +7,12 @@ use Rattle.grep_searcher.specs.Plans.{Settings}
 use Rattle.grep_searcher.specs.Searches.{EndsUnread}
 use Rattle.grep_searcher.specs.Source.{ReadResult}
 
--- an error that isn't the sink's own, of a searcher with these settings: it is of the matcher's at a
--- question, or the reader wasn't read to its end
-abbrev pub IsReaderFailure : {R E F : Type 0} → (R → Option (List ℕ)) → (R → ReadResult → R → Type 0)
-    → ErrorMakers F E → MatcherFacts F → Settings → R → E → R → Type 0
+-- an error that isn't the sink's own, of a searcher with these settings: it is of the matcher's at
+-- a question, or the reader wasn't read to its end
+abbrev pub IsReaderFailure : {R E F : Type 0} → (R → Option (List ℕ))
+    → (R → ReadResult → R → Type 0) → ErrorMakers F E → MatcherFacts F → Settings → R → E → R
+    → Type 0
 IsReaderFailure remaining read_step errors matcher settings old e new =
     FailsAtQuestion errors matcher e
-    ⊎ EndsUnread remaining read_step errors.is_io (record { settings = settings; has_buffers = true })
-    matcher.meaning old e new
+    ⊎ EndsUnread remaining read_step errors.is_io
+    (record { settings = settings; has_buffers = true }) matcher.meaning old e new

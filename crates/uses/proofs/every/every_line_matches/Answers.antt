@@ -23,24 +23,20 @@ none-below : (hits : ℕ → Bool) (passes : List ℕ → Bool) (xs : List (List
     → not (some_below hits n) ≡ list_all passes (take n xs)
 none-below hits passes xs is zero within = refl
 none-below hits passes xs is (suc n) within = let below : n < length xs = omega arith in
-    rw (
-      is n below,
-      ← add-one n,
-      list_all_more passes xs n [] below,
-      ← none-below hits passes xs is n (omega arith),
-    ) (none-more _ _)
+    rw (is n below, ← add-one n, list_all_more passes xs n [] below)
+    (rw (← none-below hits passes xs is n (omega arith)) (none-more _ _))
 
 pub returns-clause-every : goal.returns-clause-every
 returns-clause-every g c = λ lawful.
     let meaning = (g.M.Matcher.facts c.args.matcher).meaning in let bytes = c.args.bytes.now in
+    let all = lines 10 bytes in
     ap not (c.is_found.ensures ∙ c.handler.ensures ∙ c.runs_find_selected.ensures.lines inverted meaning bytes refl _ _
     (c.new-sink.ensures ∙ c.new-found.ensures) (rw (c.input_is_searched.ensures.input inverted bytes refl refl) at
     (c.searches_run.ensures c.args.matcher _ bytes _ _ refl lawful
     (rw c.in_ok-searcher.ensures.settings at c.in_ok-search_slice.ensures.searched))))
-    ∙ rw (take_all (length (lines 10 bytes)) (lines 10 bytes) (omega arith)) at (none-below (is_selected inverted meaning bytes)
-    (λ line. is_some (meaning.first (strip (Byte 10) line))) (lines 10 bytes) (λ i within.
-    c.hits_are_selected.ensures.selected inverted meaning bytes i (record { unlimited = refl; unstopped = refl })
-    within) (length (lines 10 bytes)) (omega arith))
+    ∙ rw (take_all (length all) all (omega arith)) at (none-below (is_selected inverted meaning bytes)
+    (λ line. is_some (meaning.first (strip (Byte 10) line))) all (λ i within. c.hits_are_selected.ensures.selected
+    inverted meaning bytes i (record { unlimited = refl; unstopped = refl }) within) (length all) (omega arith))
 
 pub returns-in_err-search_slice-clause-error : goal.returns-in_err-search_slice-clause-error
 returns-in_err-search_slice-clause-error g c = λ sound. let residual = c.from_residual-in_err-search_slice in
