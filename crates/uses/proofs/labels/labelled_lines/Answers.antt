@@ -5,11 +5,9 @@ use Rattle.uses.proofs.labels.labelled_lines.Goals as goal
 
 pub returns-clause-text : goal.returns-clause-text
 returns-clause-text g c = λ lawful undetected.
-    let kept = c.runs_append_by_state.ensures (λ s. s.text) (λ s. labelled s.label) (λ _ _ _ _ _ h. (
-      h.0,
-      ap (λ (s : LabelledText). s.text) h.1,
-      λ other. ap (λ (s : LabelledText). labelled s.label other) h.1,
-    )) _ _ _ _
+    let text = λ (s : LabelledText). s.text in let part = λ (s : LabelledText). labelled s.label in
+    let kept = c.runs_append_by_state.ensures text part
+    (λ _ _ _ _ _ h. (h.0, ap text h.1, λ other. ap (λ (s : LabelledText). part s other) h.1)) _ _ _ _
     (c.searches_run.ensures c.args.matcher c.args.searcher.now c.args.bytes.now _ _ undetected lawful
     c.in_ok-search_slice.ensures.searched) in
     grind (arith, kept, c.new.ensures.items, c.into_text.ensures)
