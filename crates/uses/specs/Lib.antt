@@ -6,7 +6,9 @@ pub mod FirstBytes
 pub mod GroupTexts
 pub mod IoFailures
 pub mod JsonLines
+pub mod LabelledLines
 pub mod LineFlags
+pub mod LineSpans
 pub mod LinesBefore
 pub mod LongestLines
 pub mod MarkedBlocks
@@ -19,4 +21,5 @@ pub mod PatternErrors
 pub mod PlainSettings
 pub mod PlannedCalls
 pub mod Prefixes
+pub mod ReaderFailures
 pub mod TakenLines

@@ -3,11 +3,12 @@ ghost use Rattle.std.specs.Prelude.{◌≡◌, ◌⊎◌, true, ℕ, List, slice
 ghost use Rattle.grep_searcher.specs.ErrorMakers.{makers_of};
 ghost use Rattle.grep_searcher.specs.KeptFirst.{search_error_makers};
 ghost use Rattle.grep_searcher.specs.LineCounts.{IsLineSearch};
-ghost use Rattle.grep_searcher.specs.MatcherFailures.{FailsAtQuestion, IsLawfulSearch};
+ghost use Rattle.grep_searcher.specs.MatcherFailures.{IsLawfulSearch};
 ghost use Rattle.grep_searcher.specs.SearchErrors.{IsOutOfMemory};
 ghost use Rattle.grep_searcher.specs.SearchLaws.{matched_lines};
-ghost use Rattle.grep_searcher.specs.Searches.{EndsUnread, searched_bytes};
+ghost use Rattle.grep_searcher.specs.Searches.{searched_bytes};
 ghost use Rattle.uses.specs.LinesBefore.{lines_before};
+ghost use Rattle.uses.specs.ReaderFailures.{IsReaderFailure};
 
 use grep_searcher::laws::{known_readers_run, readers_fail_for, runs_keep_first};
 use grep_searcher::sinks::{First, KeptMatch, OnMatch};
@@ -35,10 +36,9 @@ pub fn lines_before_match<M: Matcher + Drop, R: Source>(
         before ≡ slice_get (matched_lines searcher.old.settings (M.facts matcher).meaning
         (searched_bytes searcher.old.settings input)) 0) }
     ensures error { IsLawfulSearch (M.facts matcher) searcher.old.settings → IfErr result (λ e.
-        IsOutOfMemory e
-        ⊎ (FailsAtQuestion (makers_of M.Error.output search_error_makers) (M.facts matcher) e
-        ⊎ EndsUnread R.remaining R.step (λ error e. e ≡ SearchError.Io error) searcher.old
-        (M.facts matcher).meaning reader.old e reader.new)) }
+        IsOutOfMemory e ⊎ IsReaderFailure R.remaining R.step
+        (makers_of M.Error.output search_error_makers) (M.facts matcher) searcher.old reader.old e
+        reader.new) }
     ensures settings { searcher.new.settings ≡ searcher.old.settings }
     ensures buffers { searcher.old.has_buffers ≡ true → searcher.new.has_buffers ≡ true }
 {

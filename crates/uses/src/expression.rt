@@ -6,10 +6,12 @@ ghost use Rattle.grep_searcher.specs.KeptFirst.{search_error_makers};
 ghost use Rattle.grep_searcher.specs.LineCounts.{matched_count};
 ghost use Rattle.grep_searcher.specs.MatcherFailures.{IsSliceFailure};
 ghost use Rattle.grep_searcher.specs.Plans.{is_across, refusal_of};
-ghost use Rattle.grep_searcher.specs.SearchErrors.{IsOutOfMemory};
+ghost use Rattle.grep_searcher.specs.SearchErrors.{IsOutOfMemory, is_out_of_memory};
 ghost use Rattle.grep_searcher.specs.Searches.{searched_bytes};
 ghost use Rattle.uses.specs.MatchedLines.{IsFirstLine};
 ghost use Rattle.uses.specs.PatternErrors.{IsPatternError, line_facts};
+ghost use Rattle.uses.specs.PlainSettings.{built_with, held_to};
+ghost use Rattle.uses.specs.ReaderFailures.{IsReaderFailure};
 
 use crate::count::count_matching_lines;
 use crate::first::first_line_that_matches;
@@ -52,15 +54,21 @@ pub fn count_pattern_lines(
 /// Returns the first line of what a reader gives that a pattern matches, as
 /// `first_line_that_matches` does. `^` and `$` match at the ends of a line.
 ///
-/// An error is that of a pattern that can't be compiled, or one of `first_line_that_matches`.
+/// An error is that of a pattern that can't be compiled, or of being out of memory, or one of
+/// `first_line_that_matches`. A matcher of a pattern may fail at any question.
 pub fn first_pattern_line<R: Source>(
     alloc: Global,
     pattern: &str,
     reader: &mut R,
     limit: usize,
 ) -> Result<Option<KeptMatch>, SearchError>
-    ensures { (input : List ℕ) → R.remaining reader.old ≡ Some input → IfOk result
+    ensures line { (input : List ℕ) → R.remaining reader.old ≡ Some input → IfOk result
         (IsFirstLine limit (line_meaning pattern.now) input (R.remaining reader.new)) }
+    ensures error { refusal_of (held_to limit) (line_meaning pattern.now) ≡ None
+        → IfErr result (λ e. IsPatternError pattern.now e ⊎ ((is_out_of_memory e ≡ true)
+        ⊎ IsReaderFailure R.remaining R.step
+        (makers_of ⟦<AllocError as Display>⟧.output search_error_makers) (line_facts pattern.now)
+        (built_with (held_to limit)) reader.old e reader.new)) }
 {
     let regex = Regex::for_lines(alloc, pattern)?;
     let matcher = regex.matcher(alloc)?;

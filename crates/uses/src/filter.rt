@@ -8,7 +8,7 @@ ghost use Rattle.grep_searcher.specs.MatcherFailures.{IsLawfulSearch, IsSliceFai
 ghost use Rattle.grep_searcher.specs.Plans.{IsLawful};
 ghost use Rattle.grep_searcher.specs.SearchErrors.{is_out_of_memory};
 ghost use Rattle.grep_searcher.specs.SearchFailures.{IsFaultless};
-ghost use Rattle.uses.specs.PlainSettings.{as_it_is};
+ghost use Rattle.uses.specs.PlainSettings.{as_it_is, built_with};
 
 use crate::plain::{input_is_searched, searcher_as_it_is};
 use grep_searcher::laws::{
@@ -36,7 +36,7 @@ pub fn lines_that_match<M: Matcher + Drop>(
     ensures failure { IsLawfulSearch (M.facts matcher) as_it_is → IfErr result (λ e.
         (is_out_of_memory e ≡ true)
         ⊎ IsSliceFailure (makers_of M.Error.output search_error_makers) (M.facts matcher)
-        (record { settings = as_it_is; has_buffers = true }) bytes.now e) }
+        (built_with as_it_is) bytes.now e) }
 {
     let mut searcher = searcher_as_it_is(alloc)?;
     let mut sink = OnMatch::new(EachLine::new(alloc));

@@ -1,15 +1,21 @@
 //! The first matches of a reader, and the first alone.
 ghost use Rattle.std.specs.Prelude.{◌≡◌, ◌⊎◌, true, List, ℕ, Some, IfOk, IfErr};
-ghost use Rattle.grep_searcher.specs.Searches.{EndsUnread};
+ghost use Rattle.grep_searcher.specs.ErrorMakers.{makers_of};
+ghost use Rattle.grep_searcher.specs.KeptFirst.{search_error_makers};
 ghost use Rattle.grep_searcher.specs.LineCounts.{IsLineSearch};
+ghost use Rattle.grep_searcher.specs.MatcherFailures.{IsLawfulSearch};
 ghost use Rattle.grep_searcher.specs.Plans.{IsLawful};
 ghost use Rattle.grep_searcher.specs.SearchErrors.{is_out_of_memory};
 ghost use Rattle.grep_searcher.specs.SearchFailures.{IsFaultless};
+ghost use Rattle.grep_searcher.specs.Searches.{EndsUnread};
 ghost use Rattle.uses.specs.MatchedLines.{AreFirstLines, IsFirstLine};
-ghost use Rattle.uses.specs.PlainSettings.{held_to};
+ghost use Rattle.uses.specs.PlainSettings.{built_with, held_to};
+ghost use Rattle.uses.specs.ReaderFailures.{IsReaderFailure};
 
 use crate::plain::{input_is_searched, searcher_held_to};
-use grep_searcher::laws::{reader_searches_run, readers_fail, readers_keep_first, runs_keep_first};
+use grep_searcher::laws::{
+    reader_searches_run, readers_fail, readers_fail_for, readers_keep_first, runs_keep_first,
+};
 use grep_searcher::sinks::{First, KeptMatch, OnMatch};
 use grep_searcher::{Matcher, SearchError, Searcher, Source};
 use std::alloc::Global;
@@ -63,14 +69,17 @@ pub fn first_line_that_matches<M: Matcher + Drop, R: Source>(
         (IsFirstLine limit (M.facts matcher).meaning input (R.remaining reader.new)) }
     ensures error { IsFaultless (M.facts matcher) (held_to limit) → IfErr result (λ e.
         (is_out_of_memory e ≡ true) ⊎ EndsUnread R.remaining R.step
-        (λ error e. e ≡ SearchError.Io error) (record {
-          settings = held_to limit;
-          has_buffers = true;
-        }) (M.facts matcher).meaning reader.old e reader.new) }
+        (λ error e. e ≡ SearchError.Io error) (built_with (held_to limit))
+        (M.facts matcher).meaning reader.old e reader.new) }
+    ensures failure { IsLawfulSearch (M.facts matcher) (held_to limit) → IfErr result (λ e.
+        (is_out_of_memory e ≡ true) ⊎ IsReaderFailure R.remaining R.step
+        (makers_of M.Error.output search_error_makers) (M.facts matcher)
+        (built_with (held_to limit)) reader.old e reader.new) }
 {
     let mut searcher = searcher_held_to(alloc, limit)?;
     let mut sink = OnMatch::new(First::new(alloc, 1));
     readers_fail::<Global, M, R, _>(&sink);
+    readers_fail_for::<Global, M, R, _>(&sink);
     searcher.search_reader(matcher, reader, &mut sink)?;
     readers_keep_first::<Global, M, R>();
     input_is_searched();

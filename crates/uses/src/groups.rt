@@ -12,7 +12,7 @@ ghost use Rattle.grep_searcher.specs.Plans.{IsLawful};
 ghost use Rattle.grep_searcher.specs.SearchErrors.{IsOutOfMemory, is_out_of_memory};
 ghost use Rattle.uses.specs.GroupTexts.{text_in_line};
 ghost use Rattle.uses.specs.MatchedLines.{first_in};
-ghost use Rattle.uses.specs.PlainSettings.{as_it_is};
+ghost use Rattle.uses.specs.PlainSettings.{as_it_is, built_with};
 
 use crate::filter::lines_that_match;
 use grep_replace::laws::all_parts_are_found;
@@ -39,7 +39,7 @@ pub fn texts_of_group<M: CapturesAt>(
     ensures error { IsLawfulSearch (M.facts matcher.now) as_it_is → IfErr result (λ e.
         (is_out_of_memory e ≡ true)
         ⊎ IsSliceFailure (makers_of M.Error.output search_error_makers) (M.facts matcher.now)
-        (record { settings = as_it_is; has_buffers = true }) bytes.now e) }
+        (built_with as_it_is) bytes.now e) }
 {
     let lines = lines_that_match(alloc, matcher, bytes)?;
     let mut texts = Vec::new(alloc);

@@ -16,11 +16,13 @@
 //! `take_lines` the first ones with how many bytes they take, and `count_gaps` counts where lines
 //! were left out between two reports. `count_first_bytes` counts lines by their first byte,
 //! `flag_lines` says of each line whether it matches, and `first_difference` compares the lines of
-//! two slices. `redact` replaces all matches in a slice. `lines_before_match` says how many lines of
-//! a reader come before the first that matches, `blocks_that_match` keeps the blocks of lines that
-//! matches across lines touch, `texts_of_group` has the text of a group in each line that matches,
-//! `groups_of_each` the groups of each match in a slice, and `groups_of_match` those of a match that
-//! was found before. `CALLING.md` says which laws they use.
+//! two slices. `lines_before_match` says how many lines of a reader come before the first that
+//! matches. `matching_spans` says where the matching lines of a slice are, `every_line_matches`
+//! whether all of its lines match, and `labelled_lines` writes each reported line after a label, by
+//! a sink of its own. `blocks_that_match` keeps the blocks of lines that matches across lines touch.
+//! `texts_of_group` has the text of a group in each line that matches, `groups_of_each` the groups
+//! of each match in a slice, and `groups_of_match` those of a match that was found before. `redact`
+//! replaces all matches in a slice. `CALLING.md` says which laws they use.
 #![tactic(auto)]
 
 mod around;
@@ -31,6 +33,7 @@ mod bytes;
 mod collect;
 mod count;
 mod different;
+mod every;
 mod expression;
 mod filter;
 mod first;
@@ -38,6 +41,7 @@ mod flags;
 mod gaps;
 mod groups;
 mod json;
+mod labels;
 mod last;
 mod longest;
 mod matched;
@@ -49,6 +53,7 @@ mod plain;
 mod prefix;
 mod redaction;
 mod report;
+mod spans;
 mod taken;
 mod totals;
 mod units;
@@ -61,6 +66,7 @@ pub use bytes::count_first_bytes;
 pub use collect::matching_lines;
 pub use count::{count_in_reader, count_matching_lines};
 pub use different::first_difference;
+pub use every::every_line_matches;
 pub use expression::{count_pattern_lines, first_pattern_line};
 pub use filter::lines_that_match;
 pub use first::{first_line_that_matches, first_matches};
@@ -68,6 +74,7 @@ pub use flags::flag_lines;
 pub use gaps::count_gaps;
 pub use groups::{groups_of_each, groups_of_match, texts_of_group};
 pub use json::json_lines;
+pub use labels::labelled_lines;
 pub use last::last_matches;
 pub use longest::longest_line;
 pub use matched::{first_in_each, matches_in_lines};
@@ -78,6 +85,7 @@ pub use path::{count_in_path, has_match};
 pub use prefix::count_with_prefix;
 pub use redaction::redact;
 pub use report::{in_context, reporter};
+pub use spans::matching_spans;
 pub use taken::take_lines;
 pub use totals::count_in_paths;
 pub use units::blocks_that_match;

@@ -1,19 +1,24 @@
 //! The lines that match, with the first match in each.
-ghost use Rattle.std.specs.Prelude.{◌≡◌, false, true, All, filter, is_some, map, Some, IfOk, IfErr};
+ghost use Rattle.std.specs.Prelude.{◌≡◌, ◌⊎◌, false, true, All, filter, is_some, map, Some, IfOk};
+ghost use Rattle.std.specs.Prelude.{IfErr};
+ghost use Rattle.grep_searcher.specs.ErrorMakers.{makers_of};
+ghost use Rattle.grep_searcher.specs.KeptFirst.{search_error_makers};
 ghost use Rattle.grep_searcher.specs.LineCounts.{IsLineSearch};
 ghost use Rattle.grep_searcher.specs.Lines.{lines};
 ghost use Rattle.grep_searcher.specs.MatchHandlers.{bytes_of_each};
+ghost use Rattle.grep_searcher.specs.MatcherFailures.{FailsAtQuestion, IsLawfulSearch};
+ghost use Rattle.grep_searcher.specs.MatcherFailures.{IsSliceFailure};
 ghost use Rattle.grep_searcher.specs.Meanings.{IsInfallible};
 ghost use Rattle.grep_searcher.specs.Plans.{IsLawful};
 ghost use Rattle.grep_searcher.specs.Searches.{searched_bytes};
-ghost use Rattle.grep_searcher.specs.SearchErrors.{is_out_of_memory};
+ghost use Rattle.grep_searcher.specs.SearchErrors.{IsOutOfMemory, is_out_of_memory};
 ghost use Rattle.grep_searcher.specs.SearchFailures.{IsFaultless};
 ghost use Rattle.uses.specs.MatchedLines.{first_in, first_in_line, firsts_in_matches};
 ghost use Rattle.uses.specs.MatchedLines.{lines_of_matches};
 ghost use Rattle.uses.specs.PlainSettings.{as_it_is};
 
 use crate::filter::lines_that_match;
-use grep_searcher::laws::{matched_lines_hit, runs_keep_bytes, searches_run};
+use grep_searcher::laws::{matched_lines_hit, runs_keep_bytes, searches_run, slices_fail_for};
 use grep_searcher::sinks::{EachLine, OnMatch};
 use grep_searcher::{
     LineTerminator, Match, Matcher, SearchError, Searcher, SinkError, without_terminator,
@@ -64,6 +69,10 @@ pub fn first_in_each<M: Matcher>(
     ensures firsts { IfOk result (λ firsts. map (λ first. Some first) firsts.items
         ≡ firsts_in_matches searcher.old.settings (M.facts matcher.now).meaning
         (searched_bytes searcher.old.settings bytes.now)) }
+    ensures error { IsLawfulSearch (M.facts matcher.now) searcher.old.settings
+        → IfErr result (λ e. IsOutOfMemory e
+        ⊎ IsSliceFailure (makers_of M.Error.output search_error_makers) (M.facts matcher.now)
+        searcher.old bytes.now e) }
     ensures settings { searcher.new.settings ≡ searcher.old.settings }
     ensures buffers { searcher.old.has_buffers ≡ true → searcher.new.has_buffers ≡ true }
 {
@@ -91,10 +100,15 @@ fn reported_lines<M: Matcher>(
     ensures matching { IfOk result (λ lines. All (λ line. is_some (first_in_line
         searcher.old.settings.line_terminator (M.facts matcher.now).meaning line) ≡ true)
         (bytes_of_each lines.items)) }
+    ensures error { IsLawfulSearch (M.facts matcher.now) searcher.old.settings
+        → IfErr result (λ e. IsOutOfMemory e
+        ⊎ IsSliceFailure (makers_of M.Error.output search_error_makers) (M.facts matcher.now)
+        searcher.old bytes.now e) }
     ensures settings { searcher.new.settings ≡ searcher.old.settings }
     ensures buffers { searcher.old.has_buffers ≡ true → searcher.new.has_buffers ≡ true }
 {
     let mut sink = OnMatch::new(EachLine::new(alloc));
+    slices_fail_for::<Global, &M, _>(&sink);
     searcher.search_slice(matcher, bytes, &mut sink)?;
     searches_run::<Global, &M, _>(&sink);
     runs_keep_bytes::<Global>();
@@ -113,6 +127,8 @@ fn first_match<M: Matcher>(
     ensures first { IfOk result (λ first. Some first
         ≡ first_in_line terminator (M.facts matcher.now).meaning line.now) }
     ensures error { IsInfallible (M.facts matcher.now).fails → IfErr result (λ e. ⊥) }
+    ensures failure { IfErr result (FailsAtQuestion
+        (makers_of M.Error.output search_error_makers) (M.facts matcher.now)) }
 {
     match matcher.find(without_terminator(line, terminator)) {
         Ok(found) => Ok(found.unwrap()),

@@ -3,7 +3,7 @@ ghost use Rattle.std.specs.Prelude.{◌≡◌, ℕ, List, false, true, None, IfO
 ghost use Rattle.grep_searcher.specs.Plans.{Settings};
 ghost use Rattle.grep_searcher.specs.Searches.{searched_bytes};
 ghost use Rattle.grep_searcher.specs.SliceSearches.{is_searched_unchanged};
-ghost use Rattle.uses.specs.PlainSettings.{as_it_is, held_to, limited_to};
+ghost use Rattle.uses.specs.PlainSettings.{as_it_is, built_with, held_to, inverted, limited_to};
 
 use grep_searcher::laws::unchanged_is_searched;
 use grep_searcher::{ConfigError, Searcher, SearcherBuilder};
@@ -24,7 +24,7 @@ pub(crate) fn input_is_searched()
 // A searcher that searches its input as it is.
 pub(crate) fn searcher_as_it_is(alloc: Global) -> Result<Searcher, ConfigError>
     ensures settings { IfOk result (λ searcher.
-        searcher ≡ record { settings = as_it_is; has_buffers = true }) }
+        searcher ≡ built_with as_it_is) }
     ensures error { IfErr result (λ e. e ≡ ConfigError.Memory) }
 {
     SearcherBuilder::new().bom_sniffing(false).build(alloc)
@@ -33,7 +33,7 @@ pub(crate) fn searcher_as_it_is(alloc: Global) -> Result<Searcher, ConfigError>
 // One that holds at most so many bytes of it.
 pub(crate) fn searcher_held_to(alloc: Global, limit: usize) -> Result<Searcher, ConfigError>
     ensures settings { IfOk result (λ searcher.
-        searcher ≡ record { settings = held_to limit; has_buffers = true }) }
+        searcher ≡ built_with (held_to limit)) }
     ensures error { IfErr result (λ e. e ≡ ConfigError.Memory) }
 {
     SearcherBuilder::new()
@@ -45,11 +45,23 @@ pub(crate) fn searcher_held_to(alloc: Global, limit: usize) -> Result<Searcher, 
 // One that searches up to the last of so many lines that match.
 pub(crate) fn searcher_limited_to(alloc: Global, limit: u64) -> Result<Searcher, ConfigError>
     ensures settings { IfOk result (λ searcher.
-        searcher ≡ record { settings = limited_to limit; has_buffers = true }) }
+        searcher ≡ built_with (limited_to limit)) }
     ensures error { IfErr result (λ e. e ≡ ConfigError.Memory) }
 {
     SearcherBuilder::new()
         .bom_sniffing(false)
         .max_matches(Some(limit))
+        .build(alloc)
+}
+
+// One that searches for the lines that don't match.
+pub(crate) fn searcher_inverted(alloc: Global) -> Result<Searcher, ConfigError>
+    ensures settings { IfOk result (λ searcher.
+        searcher ≡ built_with inverted) }
+    ensures error { IfErr result (λ e. e ≡ ConfigError.Memory) }
+{
+    SearcherBuilder::new()
+        .bom_sniffing(false)
+        .invert_match(true)
         .build(alloc)
 }

@@ -1,12 +1,13 @@
 //! The callers of `uses` that measure what matches: the longest line, the first lines with how many
 //! bytes they take, the gaps between what is reported, how many lines begin with each byte, which
-//! lines match, how many come before the first that matches, and where two inputs first differ.
+//! lines match, where they are, whether all of them match, how many come before the first that
+//! matches, what is reported of them after a label, and where two inputs first differ.
 use grep_searcher::sinks::KeptMatch;
 use grep_searcher::{LiteralMatcher, SearchError, Searcher, SearcherBuilder};
 use std::alloc::Global;
 use uses::{
-    count_first_bytes, count_gaps, first_difference, flag_lines, lines_before_match, longest_line,
-    take_lines,
+    count_first_bytes, count_gaps, every_line_matches, first_difference, flag_lines,
+    labelled_lines, lines_before_match, longest_line, matching_spans, take_lines,
 };
 
 // Line 1, line 3, line 4 and line 8 have an `a`. Lines 3 and 4 are the longest of them.
@@ -98,6 +99,46 @@ fn flags_lines(alloc: Global) -> Result<bool, SearchError> {
 #[test]
 fn lines_are_flagged(rt: HostRuntime) {
     assert!(rt; matches!(flags_lines(rt.alloc()), Ok(true)));
+}
+
+// The offset and the length of each line that matches. The last one has no terminator.
+fn spans_lines(alloc: Global) -> Result<bool, SearchError> {
+    let mut searcher = Searcher::new(alloc)?;
+    let spans = matching_spans(alloc, &mut searcher, letter(), INPUT)?;
+    Ok(spans.as_slice() == [(0, 2), (7, 4), (11, 4), (21, 1)].as_slice())
+}
+
+#[test]
+fn lines_are_spanned(rt: HostRuntime) {
+    assert!(rt; matches!(spans_lines(rt.alloc()), Ok(true)));
+}
+
+#[test]
+fn every_line_is_matched(rt: HostRuntime) {
+    assert!(rt;
+        matches!(
+            every_line_matches(rt.alloc(), letter(), b"a\nab\nba"),
+            Ok(true)
+        )
+    );
+}
+
+#[test]
+fn a_line_is_not_matched(rt: HostRuntime) {
+    assert!(rt; matches!(every_line_matches(rt.alloc(), letter(), INPUT), Ok(false)));
+}
+
+// Lines 2 and 5 are in the context after a match. Lines 6 and 7 are left out.
+fn labels_lines(alloc: Global) -> Result<bool, SearchError> {
+    let mut searcher = SearcherBuilder::new().after_context(1).build(alloc)?;
+    let text = labelled_lines(alloc, &mut searcher, letter(), b"log", INPUT)?;
+    let labelled = b"log:a\nlog-long\nlog:abc\nlog:cab\nlog-y\n--\nlog:a";
+    Ok(text.as_slice() == labelled.as_slice())
+}
+
+#[test]
+fn lines_are_labelled(rt: HostRuntime) {
+    assert!(rt; matches!(labels_lines(rt.alloc()), Ok(true)));
 }
 
 // Where the lines that match of the input and of another first differ.

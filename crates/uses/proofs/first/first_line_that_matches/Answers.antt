@@ -21,3 +21,9 @@ returns-in_err-search_reader-clause-error g c = λ sound. let residual = c.from_
     let error = err_from_is_err_and residual.result residual.ensures.1 in rw (error.1, error.2)
     (⊎_elim (λ step. inl (rw (step.2.1.0.1, step.2.1.0.2) refl)) inr (c.readers_fail.ensures _ _ _ _ _ _ _ sound
     (rw c.in_ok-searcher.ensures.settings at c.in_err-search_reader.ensures.searched)))
+
+pub returns-in_err-search_reader-clause-failure : goal.returns-in_err-search_reader-clause-failure
+returns-in_err-search_reader-clause-failure g c = λ sound. let residual = c.from_residual-in_err-search_reader in
+    let error = err_from_is_err_and residual.result residual.ensures.1 in rw (error.1, error.2)
+    (⊎_elim (λ step. inl (rw (step.2.1.0.1, step.2.1.0.2) refl)) inr (c.readers_fail_for.ensures c.args.matcher
+    _ _ _ _ _ _ sound (rw c.in_ok-searcher.ensures.settings at c.in_err-search_reader.ensures.searched)))

@@ -1,5 +1,6 @@
-use Rattle.std.proofs.Common.{◌≡◌, map, take, ap, arith, ◌∙◌}
+use Rattle.std.proofs.Common.{◌≡◌, map, take, ap, arith, inl, inr, ◌∙◌}
 use Rattle.std.proofs.lemmas.Grind.{common_steps}
+use Rattle.std.proofs.lemmas.Result.{err_from_is_err_and}
 use Rattle.grep_searcher.specs.MatchHandlers.{bytes_of_each}
 use Rattle.uses.specs.MatchedLines.{first_in_line}
 use Rattle.uses.proofs.matched.first_in_each.Goals as goal
@@ -17,3 +18,13 @@ returns-clause-firsts g c = let ends = c.args.searcher.now.settings.line_termina
     grind (arith, common_steps, c.deref-line-items.ensures.value, c.loop-line-test.false) in
     c.loop-line.invariant ∙ rw c.line_terminator-terminator.ensures (ap (λ vectors. map first (bytes_of_each vectors))
     whole ∙ ap (map first) c.in_ok-lines.ensures.lines)
+
+pub returns-in_err-lines-clause-error : goal.returns-in_err-lines-clause-error
+returns-in_err-lines-clause-error g c = λ sound.
+    let error = err_from_is_err_and c.from_residual.result c.from_residual.ensures.1 in
+    rw (error.1, error.2) (c.in_err-lines.ensures.error sound)
+
+pub returns-in_err-first_match-clause-error : goal.returns-in_err-first_match-clause-error
+returns-in_err-first_match-clause-error g c = λ sound. let residual = c.from_residual-in_err-first_match in
+    let error = err_from_is_err_and residual.result residual.ensures.1 in
+    rw (error.1, error.2) (inr (inl c.in_err-first_match.ensures.failure))

@@ -1,5 +1,6 @@
-use Rattle.std.proofs.Common.{◌≡◌, true, ◌∙◌}
+use Rattle.std.proofs.Common.{◌≡◌, true, ◌∙◌, inl, inr}
 use Rattle.std.proofs.lemmas.List.Elements.{All-map}
+use Rattle.std.proofs.lemmas.Result.{err_from_is_err_and}
 use Rattle.std.specs.Prelude.{is_some}
 use Rattle.grep_searcher.specs.Plans.{reported_bytes}
 use Rattle.grep_searcher.specs.Searches.{searched_bytes}
@@ -18,3 +19,10 @@ returns-clause-matching g c = let settings = c.args.searcher.now.settings in
     (All-map (λ line. is_some (first_in_line settings.line_terminator meaning line) ≡ true) reported_bytes _
     (c.matched_lines_hit.ensures.matching settings meaning (searched_bytes settings c.args.bytes.now)
     c.requires.by_line.by_line c.requires.plain))
+
+pub returns-in_err-search_slice-clause-error : goal.returns-in_err-search_slice-clause-error
+returns-in_err-search_slice-clause-error g c = λ sound.
+    let error = err_from_is_err_and c.from_residual.result c.from_residual.ensures.1 in
+    rw (error.1, error.2)
+    (elim (c.slices_fail_for.ensures c.args.matcher c.args.searcher.now c.args.bytes.now _ _ _ sound
+    c.in_err-search_slice.ensures.searched) [ inl step ↦ inl step.2.1.0 | inr other ↦ inr other ])
