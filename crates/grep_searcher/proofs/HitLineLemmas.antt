@@ -2,17 +2,21 @@
 use Rattle.std.proofs.Common.{◌≡◌, ℕ, zero, suc, ◌<◌, ◌≤◌, Bool, true, false, List, [], ◌∷◌, length}
 use Rattle.std.proofs.Common.{take, refl, ap, sym, ◌∙◌, arith, add-one}
 use Rattle.std.proofs.Math.Seq.{take-length}
+use Rattle.std.proofs.lemmas.List.{take_all}
+use Rattle.std.proofs.lemmas.List.Folds.{list_all_more, list_any_more}
+use Rattle.std.specs.List.{list_all, list_any}
 use Rattle.std.proofs.lemmas.Bool.{lt-ltb}
 use Rattle.std.proofs.lemmas.List.Sums.{count_by_more_yes, count_by_more_no, sum_by-cons}
 use Rattle.std.specs.Prelude.{◌||◌, ◌&&◌, not, cond, nat_lt, count_by, slice_index_or, is_some}
 use Rattle.grep_matcher.specs.Lines.{byte_of, lines, strip}
 use Rattle.grep_matcher.specs.Meanings.{Meaning}
 use Rattle.grep_definitions.specs.Plans.{count_below, line, line_count, hits_if, has_room, is_below}
-use Rattle.grep_definitions.specs.Plans.{reports_end, Settings, stops_next}
+use Rattle.grep_definitions.specs.Plans.{is_selected, reports_end, Settings, some_below, stops_next}
 use Rattle.grep_definitions.proofs.LimitLemmas.{ends-none, by_limit-none, by_stop-none}
 use Rattle.grep_definitions.specs.SearchLaws.{is_matched}
 use Rattle.grep_searcher.specs.HitLines.{is_hit, HitsAreSelected, HitsAreMatched, HitsAreCounted}
-use Rattle.grep_searcher.specs.HitLines.{IsUnlimited, PredicatesAreCounted}
+use Rattle.grep_searcher.specs.HitLines.{HitsAreFound, IsUnlimited, NoneIsSelected}
+use Rattle.grep_searcher.specs.HitLines.{PredicatesAreCounted}
 
 -- as many numbers pass as items of a list do, if a number passes exactly if its item does
 count_below-items : {X : Type 0} (f : X → Bool) (p : ℕ → Bool) (d : X) (xs : List X) (n : ℕ) → n
@@ -60,6 +64,48 @@ hits-are_matched settings meaning bytes i free below =
     (matched-hit (nat_lt i (line_count settings bytes))
     (is_hit settings meaning (line settings bytes i)) _
     (lt-ltb i (line_count settings bytes) below))
+
+-- some number below n passes exactly if one of the first n items does
+some_below-any : {X : Type 0} (p : ℕ → Bool) (f : X → Bool) (d : X) (xs : List X)
+    → ((i : ℕ) → i < length xs → p i ≡ f (slice_index_or xs i d)) → (n : ℕ) → n ≤ length xs
+    → some_below p n ≡ list_any f (take n xs)
+some_below-any p f d xs same zero fits = refl
+some_below-any p f d xs same (suc n) fits = let below : n < length xs = omega (arith, fits) in
+    rw (same n below, ← add-one n, list_any_more f xs n d below)
+    (rw (some_below-any p f d xs same n (omega (arith, fits))) refl)
+
+pub hits-are_found : HitsAreFound
+hits-are_found settings meaning bytes free =
+    let all = lines (byte_of settings.line_terminator) bytes in
+    rw (take_all (length all) all (omega arith))
+    at (some_below-any _ (is_hit settings meaning) [] all
+    (λ i below. hits-are_selected settings meaning bytes i free below) (length all) (omega arith))
+
+none-more : (settings : Settings) → settings.invert_match ≡ true → (some passes : Bool)
+    → not (some || hits_if settings passes) ≡ (not some && passes)
+none-more settings inverts true passes = refl
+none-more settings inverts false true = rw inverts refl
+none-more settings inverts false false = rw inverts refl
+
+-- no number below n passes exactly if each of the first n items does, under inversion
+none_below-all : (settings : Settings) → settings.invert_match ≡ true → {X : Type 0}
+    (p : ℕ → Bool) (f : X → Bool) (d : X) (xs : List X)
+    → ((i : ℕ) → i < length xs → p i ≡ hits_if settings (f (slice_index_or xs i d))) → (n : ℕ)
+    → n ≤ length xs → not (some_below p n) ≡ list_all f (take n xs)
+none_below-all settings inverts p f d xs same zero fits = refl
+none_below-all settings inverts p f d xs same (suc n) fits =
+    let below : n < length xs = omega (arith, fits) in
+    rw (same n below, ← add-one n, list_all_more f xs n d below)
+    (rw (← none_below-all settings inverts p f d xs same n (omega (arith, fits)))
+    (none-more settings inverts _ _))
+
+pub none-is_selected : NoneIsSelected
+none-is_selected settings meaning bytes free inverts =
+    let all = lines (byte_of settings.line_terminator) bytes in
+    rw (take_all (length all) all (omega arith))
+    at (none_below-all settings inverts _
+    (λ line. is_some (meaning.first (strip settings.line_terminator line))) [] all
+    (λ i below. hits-are_selected settings meaning bytes i free below) (length all) (omega arith))
 
 -- each line may be reported
 reports_end-whole : (settings : Settings) (meaning : Meaning) (bytes : List ℕ)

@@ -1,11 +1,11 @@
 -- Which lines a search by line selects and reports as matches: those that hit.
 use Rattle.std.specs.Prelude.{◌≡◌, ◌⊎◌, ℕ, ◌<◌, Bool, true, false, List, All, count_by, filter, map}
-use Rattle.std.specs.Prelude.{take, Option, is_some, None, Some}
-use Rattle.std.specs.List.{range_with_len}
+use Rattle.std.specs.Prelude.{take, not, Option, is_some, None, Some}
+use Rattle.std.specs.List.{list_all, list_any, range_with_len}
 use Rattle.grep_matcher.specs.Lines.{byte_of, lines, strip}
 use Rattle.grep_matcher.specs.Meanings.{Meaning}
 use Rattle.grep_definitions.specs.Plans.{is_across, search_plan, Call, reported_bytes, line}
-use Rattle.grep_definitions.specs.Plans.{line_count, hits_if, is_selected, Settings}
+use Rattle.grep_definitions.specs.Plans.{line_count, hits_if, is_selected, some_below, Settings}
 use Rattle.grep_definitions.specs.SearchLaws.{is_matched, match_calls, match_of}
 use Rattle.grep_searcher.specs.LineCounts.{matched_count}
 use Rattle.grep_searcher.specs.MatchHandlers.{KeptReport, kept_of}
@@ -32,6 +32,22 @@ HitsAreMatched =
     (settings : Settings) (meaning : Meaning) (bytes : List ℕ) (i : ℕ) → IsUnlimited settings
     → i < line_count settings bytes
     → is_matched settings meaning bytes i ≡ is_hit settings meaning (line settings bytes i)
+
+-- so a line is selected exactly if some line hits
+abbrev pub HitsAreFound : Type 0
+HitsAreFound =
+    (settings : Settings) (meaning : Meaning) (bytes : List ℕ) → IsUnlimited settings
+    → some_below (is_selected settings meaning bytes) (line_count settings bytes)
+    ≡ list_any (is_hit settings meaning) (lines (byte_of settings.line_terminator) bytes)
+
+-- and under inversion none is selected exactly if each line matches without its terminator
+abbrev pub NoneIsSelected : Type 0
+NoneIsSelected =
+    (settings : Settings) (meaning : Meaning) (bytes : List ℕ) → IsUnlimited settings
+    → settings.invert_match ≡ true
+    → not (some_below (is_selected settings meaning bytes) (line_count settings bytes))
+    ≡ list_all (λ line. is_some (meaning.first (strip settings.line_terminator line)))
+    (lines (byte_of settings.line_terminator) bytes)
 
 -- and as many lines are matched as hit
 abbrev pub HitsAreCounted : Type 0

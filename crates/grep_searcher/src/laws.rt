@@ -24,6 +24,7 @@ ghost use Rattle.grep_searcher.specs.Gaps.{BreaksAreCounted, BreaksAreFew, Break
 ghost use Rattle.grep_searcher.specs.HandledLines.{KnownReadersHandleLines, ReadersHandleLines};
 ghost use Rattle.grep_searcher.specs.HandledLines.{LinesReach, SlicesHandleLines};
 ghost use Rattle.grep_searcher.specs.HitLines.{HitsAreSelected, HitsAreMatched, HitsAreCounted};
+ghost use Rattle.grep_searcher.specs.HitLines.{HitsAreFound, NoneIsSelected};
 ghost use Rattle.grep_searcher.specs.HitLines.{HitsAreLines, LinesAreFiltered, LinesAreListed};
 ghost use Rattle.grep_searcher.specs.HitLines.{MatchedLinesHit, MatchedLinesMatch};
 ghost use Rattle.grep_searcher.specs.HitLines.{PredicatesAreCounted};
@@ -89,12 +90,15 @@ pub fn input_is_searched()
 
 /// Without limit and stop, in a search by line, a line is selected exactly if it hits, and so are
 /// the matched lines: a line hits if whether it matches without its terminator differs from
-/// inversion. Then as many lines are matched as hit. Without inversion, of a matcher that has a
-/// match exactly where a predicate holds, these are the lines of which it holds without their
-/// terminators.
+/// inversion. Some line is selected exactly if some line hits, and as many lines are matched as
+/// hit. Under inversion no line is selected exactly if each line matches without its terminator.
+/// Without inversion, of a matcher that has a match exactly where a predicate holds, the lines that
+/// hit are those of which it holds without their terminators.
 pub fn hits_are_selected()
     ensures selected { HitsAreSelected }
     ensures matched { HitsAreMatched }
+    ensures found { HitsAreFound }
+    ensures unselected { NoneIsSelected }
     ensures counted { HitsAreCounted }
     ensures predicates { PredicatesAreCounted }
 {}
