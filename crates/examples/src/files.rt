@@ -2,8 +2,10 @@
 use crate::about::about;
 use grep_output::{Output, Writing};
 use grep_printer::{Standard, StandardBuilder};
-use grep_regex::{Regex, RegexMatcher};
-use grep_searcher::{BinaryDetection, Open, Reading, SearchError, Searcher, SearcherBuilder};
+use grep_regex::Regex;
+use grep_searcher::{
+    BinaryDetection, FindAt, Open, Reading, SearchError, Searcher, SearcherBuilder,
+};
 use std::fs;
 use std::io::Write;
 
@@ -44,10 +46,10 @@ pub fn simplegrep<W: Write>(
 }
 
 // Writes the lines of the file at a path that match.
-fn print_file<W: Output>(
+fn print_file<M: FindAt, W: Output>(
     rt: &HostRuntime,
     searcher: &mut Searcher,
-    matcher: &RegexMatcher<'_>,
+    matcher: &M,
     printer: &mut Standard<'_>,
     path: &str,
     writer: &mut W,

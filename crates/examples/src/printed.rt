@@ -1,7 +1,9 @@
 //! What printers write of a search.
 use crate::about::expression;
 use grep_output::{Output, Writing};
-use grep_printer::{Json, JsonBuilder, StandardBuilder, SummaryBuilder, SummaryKind};
+use grep_printer::{
+    Format, Json, JsonBuilder, Printer, StandardBuilder, SummaryBuilder, SummaryKind,
+};
 use grep_searcher::{FindAt, SearchError, Searcher, SearcherBuilder};
 use std::alloc::Global;
 use std::time::Duration;
@@ -17,14 +19,8 @@ pub fn standard_lines(
 ) -> Result<Vec<u8>, SearchError> {
     let regex = expression(alloc, pattern)?;
     let matcher = regex.matcher(alloc)?;
-    let mut searcher = Searcher::new(alloc)?;
     let mut printer = StandardBuilder::new().build(alloc);
-    let mut writer = Writing::new(Vec::new(alloc));
-    let mut input = haystack;
-    let searched = printer.search(&mut searcher, &matcher, None, &mut input, &mut writer);
-    searched.result?;
-    printer.flush(&mut writer)?;
-    Ok(writer.into_inner())
+    printed(alloc, &matcher, None, haystack, &mut printer)
 }
 
 /// Returns a path, a colon and how many lines of a haystack match a pattern, as a line. It
@@ -39,11 +35,22 @@ pub fn match_count(
 ) -> Result<Vec<u8>, SearchError> {
     let regex = expression(alloc, pattern)?;
     let matcher = regex.matcher(alloc)?;
-    let mut searcher = Searcher::new(alloc)?;
     let mut printer = SummaryBuilder::new().kind(SummaryKind::Count).build(alloc);
+    printed(alloc, &matcher, Some(path), haystack, &mut printer)
+}
+
+// What a printer writes of a search of a haystack.
+fn printed<F: Format, M: FindAt>(
+    alloc: Global,
+    matcher: &M,
+    path: Option<&str>,
+    haystack: &[u8],
+    printer: &mut Printer<F>,
+) -> Result<Vec<u8>, SearchError> {
+    let mut searcher = Searcher::new(alloc)?;
     let mut writer = Writing::new(Vec::new(alloc));
     let mut input = haystack;
-    let searched = printer.search(&mut searcher, &matcher, Some(path), &mut input, &mut writer);
+    let searched = printer.search(&mut searcher, matcher, path, &mut input, &mut writer);
     searched.result?;
     printer.flush(&mut writer)?;
     Ok(writer.into_inner())
