@@ -1,4 +1,4 @@
-//! The same matcher, for a printer.
+//! The matches of long lines from a position on, which a printer asks for.
 use crate::long_lines::LongLines;
 use grep_matcher::{FindAt, Match, Matcher};
 use std::io;

@@ -9,7 +9,7 @@ abbrev pub span_of : Call → ℕ × ℕ
 span_of (matches number offset line around) = (offset, length line)
 span_of _ = (0, 0)
 
--- the same of each matched line, in order
+-- of each matched line, in order, the offset of its first byte, and how many bytes it has
 abbrev pub matched_spans : Settings → Meaning → List ℕ → List (ℕ × ℕ)
 matched_spans settings meaning bytes =
     map (λ i. (start settings bytes i, length (line settings bytes i)))
